@@ -15,13 +15,13 @@ measure 10: of 2 diagnoses 1 goes on with 0 and 1 with 1, so that 1.0 are expect
 
 from . import interrupts as interrupts  # noqa: F401 # First, for what an interrupt does while the rest is loaded.
 from .advice import Proposal
+from .boards.holding import JointProgress
+from .boards.joint import Joint, JointProposal
+from .boards.tables import BadTable
 from .errors import DiagError, Ended, Inconsistent, NotBuilt, OtherProcess, Refused, TimedOut
-from .holding import JointProgress
-from .joint import Joint, JointProposal
 from .replies import Blame, Diagnosis, Graph, Level, Minimum, Mode, Probe, Verdict
 from .service import Service, find_program
 from .session import Session
-from .tables import BadTable
 
 __all__ = [
     "BadTable",

@@ -7,9 +7,11 @@ import functools
 import os
 import sys
 
-from . import bench, board, draw, interrupts, progress, shell
+from . import bench, interrupts, progress
 from .errors import DiagError, sentence
 from .files import drop_unwritten, open_streams
+from .pictures import command as pictures
+from .terminal import patterns, shell
 
 
 def words_of() -> argparse.ArgumentParser:
@@ -29,14 +31,14 @@ def words_of() -> argparse.ArgumentParser:
     name = os.path.basename(sys.argv[0])
     own = name if name.startswith("diag-") else None
     draws = commands.add_parser("picture", parents=[served], prog=own, help="draw a device with what was seen, held and blamed")
-    draw.add_words(draws)
+    pictures.add_words(draws)
 
     asks = commands.add_parser("shell", parents=[served], prog=own, help="ask a device interactively")
     asks.add_argument("--health", type=int, metavar="N", help="FILE is a graph (.nnf) whose first N variables are parts")
     asks.add_argument("--levels", type=int, metavar="C", help="what is next best may be asked for, up to a cost of C")
     asks.add_argument("--least", action="store_true", help="the graph of the diagnoses may be asked for")
-    patterns = "begin with the test patterns of a table (.csv): wires in its first row, then 0, 1 or nothing"
-    asks.add_argument("--patterns", metavar="TABLE", help=patterns)
+    begin = "begin with the test patterns of a table (.csv): wires in its first row, then 0, 1 or nothing"
+    asks.add_argument("--patterns", metavar="TABLE", help=begin)
     opens = commands.add_parser("bench", parents=[served], prog=own, help="open a page on which readings are entered by clicking wires")
     bench.add_words(opens)
     return parser
@@ -48,9 +50,9 @@ def run(words: argparse.Namespace) -> int:
         return bench.run(words)
     given = progress.options_in(words)
     if words.command == "picture":
-        return draw.draw(words, lambda: progress.serve(words.file, **given))
+        return pictures.draw(words, lambda: progress.serve(words.file, **given))
     with progress.serve(words.file, **given) as service:
-        return shell.run(service, functools.partial(board.begin, table=words.patterns))
+        return shell.run(service, functools.partial(patterns.begin, table=words.patterns))
 
 
 def main() -> int:
@@ -58,7 +60,7 @@ def main() -> int:
     open_streams()
     try:
         try:
-            words = draw.read_words(words_of())
+            words = pictures.read_words(words_of())
         finally:
             # It may be the help.
             sys.stdout.flush()

@@ -9,11 +9,12 @@ import weakref
 from collections.abc import Callable, Iterable, Iterator, Mapping, Sequence
 from typing import TYPE_CHECKING, TypeVar
 
-from . import graphviz, replies
+from . import replies
 from .errors import DiagError
+from .pictures import graphviz
 
 if TYPE_CHECKING:
-    from .case import Case
+    from .pictures.case import Case
     from .session import Session
 
 Row = TypeVar("Row")
@@ -85,7 +86,7 @@ def _cells(row: object) -> dict[str, str]:
 
 
 def _cell(value: object) -> str:
-    from .picture import FILLS
+    from .pictures.picture import FILLS
 
     if isinstance(value, replies.Verdict):
         return f'<td style="background:{FILLS[value]};color:black">{value}</td>'
@@ -98,9 +99,9 @@ def _cell(value: object) -> str:
 
 def svg(session: Session) -> str | None:
     """The picture of a session, or None if there is none: without `dot`, without gates, or once the session is closed."""
-    from . import picture
-    from .case import Case
     from .devices import read_device
+    from .pictures import picture
+    from .pictures.case import Case
 
     service = session.service
     if graphviz.find_dot() is None or service.file.suffix not in (".bench", ".dev") or not session.is_open:
@@ -120,7 +121,7 @@ def svg(session: Session) -> str | None:
 
 def session_html(session: Session) -> str | None:
     """The case of a session as tables, if there is no picture of it."""
-    from .case import Case
+    from .pictures.case import Case
 
     if not session.is_open or svg(session) is not None:
         return None

@@ -14,16 +14,16 @@ from collections.abc import Callable, Iterable, Iterator, Mapping, Sequence, Set
 from typing import TYPE_CHECKING
 
 from . import manual
+from .boards.joint import Joint
+from .boards.tables import Rows, read_table
 from .child import PIECE, Child
 from .devices import input_wires, other_names
 from .errors import Ended, NotBuilt, shown
-from .joint import Joint
 from .replies import AnyLines, Lines, Ready, Request
 from .session import BLANKS, CHANGES, Session
-from .tables import Rows, read_table
 
 if TYPE_CHECKING:
-    from .holding import JointProgress
+    from .boards.holding import JointProgress
 
 TOP = pathlib.Path(__file__).resolve().parents[2]
 # The program in a wheel of this package.

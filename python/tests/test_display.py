@@ -7,7 +7,8 @@ from unittest import mock
 
 from support import C17, EXAMPLES, needs_program
 
-from diag_client import Blame, Diagnosis, DiagError, Minimum, Probe, Service, Verdict, display, graphviz
+from diag_client import Blame, Diagnosis, DiagError, Minimum, Probe, Service, Verdict, display
+from diag_client.pictures import graphviz
 
 SEEN = {"1": 0, "2": 0, "3": 0, "6": 0, "7": 0, "22": 1, "23": 0}
 

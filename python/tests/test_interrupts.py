@@ -13,7 +13,7 @@ from unittest import mock
 
 from support import C17, TOP
 
-from diag_client import netlist
+from diag_client.convert import netlist
 
 INTERRUPT = "import os, signal\nos.kill(os.getpid(), signal.SIGINT)\n"
 

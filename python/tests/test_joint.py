@@ -12,10 +12,12 @@ from unittest import mock
 
 from support import C17, EXAMPLES, TOP, kill, needs_program
 
-from diag_client import BadTable, DiagError, Inconsistent, Refused, Service, Session, board, holding, shell
-from diag_client.tables import read_table
+from diag_client import BadTable, DiagError, Inconsistent, Refused, Service, Session
+from diag_client.boards import holding
+from diag_client.boards.tables import read_table
 from diag_client.replies import Verdict
 from diag_client.session import case_lines
+from diag_client.terminal import patterns, shell
 
 TABLE = "pattern,1,2,3,6,7,22,23\none,0,0,0,0,0,1,0\ntwo,1,0,1,0,0,0,0\n"
 ROWS = [line.split(",") for line in TABLE.splitlines()]
@@ -280,7 +282,7 @@ class Board(unittest.TestCase):
     def test_completion(self):
         """With several patterns names are completed as with one."""
         with Service(C17) as service, mock.patch("sys.stdin", io.StringIO()):
-            terminal = board.BoardShell(service, service.session("S"))
+            terminal = patterns.BoardShell(service, service.session("S"))
             terminal.take(service.patterns(ROWS))
             for line, found in (("expect 2", ["2", "22", "23"]), ("probe 2", ["2", "22", "23"]), ("best 1", ["10", "11", "16", "19"]), ("pattern t", ["two "])):
                 text = line.split()[1]
@@ -293,7 +295,7 @@ class Board(unittest.TestCase):
     def test_the_program_ends(self):
         """Whatever is asked next starts it anew."""
         with Service(C17) as service, mock.patch("sys.stdin", io.StringIO()):
-            terminal = board.BoardShell(service, service.session("S"))
+            terminal = patterns.BoardShell(service, service.session("S"))
             terminal.take(service.patterns(ROWS))
             terminal.use_rawinput = True
             for line, answer in (("min", "min 1 10"), ("pattern three", "pattern three: 0 readings")):
@@ -306,7 +308,7 @@ class Board(unittest.TestCase):
     def test_interrupt_of_hold(self):
         """What only the present pattern was told of, all are told of before anything is asked of all, or another is the present one."""
         with Service(C17) as service, mock.patch("sys.stdin", io.StringIO()), contextlib.redirect_stdout(io.StringIO()):
-            terminal = board.BoardShell(service, service.session("S"))
+            terminal = patterns.BoardShell(service, service.session("S"))
             terminal.take(service.patterns(ROWS))
             terminal.use_rawinput = True
             one, two = terminal.sessions.values()
@@ -323,7 +325,7 @@ class Board(unittest.TestCase):
         with Service(C17) as service, mock.patch("sys.stdin", io.StringIO()), tempfile.TemporaryDirectory() as folder:
             script = pathlib.Path(folder, "case.script")
             script.write_text("open one\nsee one 1=0\nopen two\nsee two 1=1\n")
-            terminal = board.BoardShell(service, service.session("S"))
+            terminal = patterns.BoardShell(service, service.session("S"))
             terminal.use_rawinput = True
             load = Session.load
 

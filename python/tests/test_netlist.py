@@ -16,11 +16,12 @@ from unittest import mock
 
 from support import EXAMPLES, PROGRAM, TOP, needs_program
 
-from diag_client import DiagError, Refused, Service, netlist
+from diag_client import DiagError, Refused, Service
 from diag_client.bench import boards
+from diag_client.convert import netlist
+from diag_client.convert.circuit import Circuit, UnusableNetlist, table_of
+from diag_client.convert.readers import TABLES, read_blif
 from diag_client.devices import GATES, other_names, read_device
-from diag_client.netlist_circuit import Circuit, UnusableNetlist, table_of
-from diag_client.netlist_readers import TABLES, read_blif
 
 VERILOG = EXAMPLES / "verilog"
 ABC = shutil.which("berkeley-abc") or shutil.which("yosys-abc")

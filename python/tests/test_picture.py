@@ -13,9 +13,10 @@ from unittest import mock
 
 from support import C17, EXAMPLES, TESTS, TOP, needs_program
 
-from diag_client import DiagError, Refused, Service, Verdict, case, graphviz, picture
-from diag_client.cone import Wiring, derive
+from diag_client import DiagError, Refused, Service, Verdict
 from diag_client.devices import Part, read_device, read_netlist
+from diag_client.pictures import case, graphviz, picture
+from diag_client.pictures.cone import Wiring, derive
 
 # The case of the README, up to its first question.
 SCRIPT = (EXAMPLES / "c17.script").read_text().splitlines()[:8]

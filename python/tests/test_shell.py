@@ -17,7 +17,8 @@ from unittest import mock
 
 from support import C17, EXAMPLES, SOON, TOP, interrupt_at, kill, needs_program, replies, stand_in
 
-from diag_client import Proposal, Service, find_program, manual, shell
+from diag_client import Proposal, Service, find_program, manual
+from diag_client.terminal import shell
 
 
 @needs_program
@@ -198,10 +199,10 @@ class Lines(unittest.TestCase):
         with tempfile.TemporaryDirectory() as folder:
             self.assertEqual(self.say(f"picture {folder}/out.dot"), [f"wrote {folder}/out.dot"])
             self.assertIn("part 10", pathlib.Path(folder, "out.dot").read_text())
-            with mock.patch("diag_client.graphviz.find_dot", return_value=None):
+            with mock.patch("diag_client.pictures.graphviz.find_dot", return_value=None):
                 self.assertEqual(self.say(f"picture {folder}/out.svg"), [f"Graphviz's `dot` is not here (Debian: graphviz); wrote {folder}/out.dot alone"])
         self.assertEqual(len(self.say("picture")), 1)
-        with mock.patch("diag_client.picture.Case.of", side_effect=AssertionError):
+        with mock.patch("diag_client.pictures.picture.Case.of", side_effect=AssertionError):
             # It is found before anything is asked.
             self.assertIn("there is no folder nowhere", self.say("picture nowhere/out.svg")[0])
 

@@ -18,9 +18,9 @@ from typing import Any, TypeVar
 
 from .. import progress
 from ..advice import Proposal
+from ..boards.joint import Joint, JointProposal
 from ..devices import other_names
 from ..errors import DiagError, Ended, Inconsistent, Refused
-from ..joint import Joint, JointProposal
 from ..replies import Listing, Mode, Request, Verdict
 from ..session import Session
 from .cases import MOST_LINES, MOST_TEXT, Bad, Case, Known, Pattern, read_readings, read_script, take_readings

@@ -9,11 +9,11 @@ import re
 import sys
 from collections.abc import Collection, Iterable, Mapping
 
+from ..boards.tables import NAME as NAME_COLUMN
+from ..boards.tables import BadTable, rows_of
 from ..errors import shown
 from ..replies import Mode
 from ..session import NAME_RULE, SESSION_NAME, at_odds
-from ..tables import NAME as NAME_COLUMN
-from ..tables import BadTable, rows_of
 
 MOST_PATTERNS = 100
 # A case is a script of at most so many lines.

@@ -11,8 +11,8 @@ import re
 from collections.abc import Collection, Iterable, Mapping
 from typing import Any
 
-from ..cone import Wiring
 from ..devices import FLIP_FLOP, Part, read_device
+from ..pictures.cone import Wiring
 from . import layout
 
 # A design with more parts than this is first drawn with its blocks closed.

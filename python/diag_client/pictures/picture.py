@@ -7,12 +7,12 @@ import html
 import os
 from collections.abc import Iterable
 
+from ..devices import FLIP_FLOP, GATES, Device, Part, Reduction, read_device
+from ..errors import DiagError
+from ..replies import Verdict
+from ..service import Service
 from .case import Case, case_of_script, lines_of, noted
 from .cone import Wiring, derive
-from .devices import FLIP_FLOP, GATES, Device, Part, Reduction, read_device
-from .errors import DiagError
-from .replies import Verdict
-from .service import Service
 
 # What others look for here.
 __all__ = ["MOST", "Case", "dot_text", "picture", "picture_alone"]

@@ -7,10 +7,10 @@ import contextlib
 import sys
 from collections.abc import Callable, Iterable
 
+from ..errors import Ended
+from ..progress import as_options
+from ..service import Service
 from . import graphviz, picture
-from .errors import Ended
-from .progress import as_options
-from .service import Service
 
 # The exit status of the program for a device above the budget.
 TOO_LARGE = 3

@@ -10,11 +10,11 @@ import time
 from collections.abc import Callable, Iterator, Sequence
 from typing import TYPE_CHECKING
 
-from .errors import DiagError, Inconsistent
-from .replies import Lines, Listing, NotAReply, Request
+from ..errors import DiagError, Inconsistent
+from ..replies import Lines, Listing, NotAReply, Request
 
 if TYPE_CHECKING:
-    from .session import Session
+    from ..session import Session
 
 # Progress is reported at most once in so many seconds.
 BETWEEN = 0.1

@@ -9,8 +9,8 @@ from __future__ import annotations
 import dataclasses
 from collections.abc import Iterable
 
-from .devices import GATES, Reduction
-from .errors import DiagError
+from ..devices import GATES, Reduction
+from ..errors import DiagError
 
 # A table has at most so many inputs. A larger gate is known by its kind alone.
 MOST_TABLE_INPUTS = 10

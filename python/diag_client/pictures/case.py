@@ -8,10 +8,10 @@ import dataclasses
 import re
 from collections.abc import Iterable, Mapping
 
-from .errors import DiagError, Inconsistent, Refused
-from .replies import Verdict
-from .service import Service
-from .session import Session
+from ..errors import DiagError, Inconsistent, Refused
+from ..replies import Verdict
+from ..service import Service
+from ..session import Session
 
 
 @dataclasses.dataclass(frozen=True)

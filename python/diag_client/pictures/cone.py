@@ -6,7 +6,7 @@ import collections
 import dataclasses
 from collections.abc import Callable, Iterable, Mapping
 
-from .devices import FLIP_FLOP, GATES, Device, Part, Reduction
+from ..devices import FLIP_FLOP, GATES, Device, Part, Reduction
 
 
 class Wiring:

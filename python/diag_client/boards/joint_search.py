@@ -19,7 +19,7 @@ import operator
 import sys
 from collections.abc import Iterator
 
-from .errors import Inconsistent
+from ..errors import Inconsistent
 from .holding import Copies, Least, Question
 
 # So many sets are listed if they may be all that is wanted, and if sets at hand are looked at.

@@ -7,9 +7,9 @@ import re
 from collections.abc import Iterator
 from typing import Any
 
-from .devices import FLIP_FLOP, GATES, OTHER_WORDS
-from .errors import shown
-from .netlist_circuit import MOST_TABLE_INPUTS, Circuit, Constant, UnusableNetlist
+from ..devices import FLIP_FLOP, GATES, OTHER_WORDS
+from ..errors import shown
+from .circuit import MOST_TABLE_INPUTS, Circuit, Constant, UnusableNetlist
 
 # The gate cells of yosys that are gates of a netlist, and all others by their inputs and tables.
 KINDS = {"BUF": "BUFF", "NOT": "NOT", "AND": "AND", "NAND": "NAND", "OR": "OR", "NOR": "NOR", "XOR": "XOR", "XNOR": "XNOR"}

@@ -13,14 +13,15 @@ import sys
 from collections.abc import Callable, Iterable, Iterator, Sequence
 from typing import Any
 
-from . import graphviz, manual, picture
-from .devices import read_device
-from .errors import DiagError, Ended, Inconsistent, Refused, sentence, shown
-from .files import write_whole
-from .progress import Progress
-from .replies import AnyLines, Lines
-from .service import LIMITS, Service
-from .session import CHANGES, NAME_RULE, Session, at_odds, case_lines
+from .. import manual
+from ..devices import read_device
+from ..errors import DiagError, Ended, Inconsistent, Refused, sentence, shown
+from ..files import write_whole
+from ..pictures import graphviz, picture
+from ..progress import Progress
+from ..replies import AnyLines, Lines
+from ..service import LIMITS, Service
+from ..session import CHANGES, NAME_RULE, Session, at_odds, case_lines
 
 try:
     import readline

@@ -6,13 +6,13 @@ import dataclasses
 from collections.abc import Callable, Iterable, Iterator
 from typing import TYPE_CHECKING
 
-from .advice import AT_HAND, Proposal
+from ..advice import AT_HAND, Proposal
+from ..replies import Blame, Diagnosis, Minimum, Verdict
 from .holding import Copies, JointProgress
 from .joint_search import Search
-from .replies import Blame, Diagnosis, Minimum, Verdict
 
 if TYPE_CHECKING:
-    from .session import Session
+    from ..session import Session
 
 # So many sets are looked for before `blame` asks part by part.
 WITNESSES = 256

@@ -7,8 +7,8 @@ import pathlib
 import shutil
 import subprocess
 
-from .errors import DiagError
-from .files import write_whole
+from ..errors import DiagError
+from ..files import write_whole
 
 # A picture of the most parts that are drawn unasked takes well under a second.
 PATIENCE = 60.0

@@ -7,12 +7,12 @@ import sys
 from collections.abc import Collection, Sequence
 from typing import Any
 
-from .errors import DiagError, Inconsistent, Refused
-from .holding import JointProgress
-from .joint import Joint
-from .replies import Probe
-from .service import Service
-from .session import Session
+from ..boards.holding import JointProgress
+from ..boards.joint import Joint
+from ..errors import DiagError, Inconsistent, Refused
+from ..replies import Probe
+from ..service import Service
+from ..session import Session
 from .shell import BEST, MORE, REFUSED, Asked, Shell, _path, in_words
 
 MORE_PATTERNS = {

@@ -10,8 +10,8 @@ import os
 import pathlib
 from collections.abc import Iterable, Mapping, Sequence
 
-from .errors import DiagError, shown
-from .session import BLANKS, NAME_RULE, SESSION_NAME
+from ..errors import DiagError, shown
+from ..session import BLANKS, NAME_RULE, SESSION_NAME
 
 # The column that names the patterns.
 NAME = "pattern"

@@ -1,0 +1,1 @@
+"""Many test patterns of one board: tables of them, and what explains all of them."""

@@ -1,0 +1,1 @@
+"""Netlists that tools wrote, made into files that `diag` reads. It needs no program."""

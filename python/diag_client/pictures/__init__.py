@@ -1,0 +1,1 @@
+"""Pictures of a device with what was seen on it, by Graphviz."""

@@ -11,6 +11,7 @@ form load 3 -
 form --build 2 -
 form --path 2 -
 form --version 2 -
+form --refused 2 -
 form --help 2 -
 option --narrow serve,plan,compile - -
 option --budget= serve,compile - -

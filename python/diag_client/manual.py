@@ -74,10 +74,17 @@ class Usage:
 
 def read_row(cells: Mapping[str, str]) -> Row:
     """A row, from its cells by the names of their columns."""
-    lists = {name: tuple(cells[name].split()) for name in ("of", "files", "beside")}
-    numbers = {name: int(cells[name]) if cells[name] else None for name in ("least", "most", "default")}
-    texts = {name: cells[name] for name in ("kind", "word", "value", "type", "text", "prints")}
-    return Row(**lists, **numbers, **texts)
+
+    def words(name: str) -> tuple[str, ...]:
+        return tuple(cells[name].split())
+
+    def number(name: str) -> int | None:
+        return int(cells[name]) if cells[name] else None
+
+    return Row(
+        cells["kind"], words("of"), cells["word"], cells["value"], cells["type"], number("least"), number("most"), number("default"),
+        words("files"), words("beside"), cells["text"], cells["prints"],
+    )
 
 
 @functools.cache

@@ -18,14 +18,19 @@ from .advice import Proposal
 from .boards.holding import JointProgress
 from .boards.joint import Joint, JointProposal
 from .boards.tables import BadTable
-from .errors import DiagError, Ended, Inconsistent, NotBuilt, OtherProcess, Refused, TimedOut
-from .replies import Blame, Diagnosis, Graph, Level, Minimum, Mode, Probe, Verdict
+from .case import Board, Case, Mode
+from .errors import BadScript, Changed, DiagError, Ended, Inconsistent, NotBuilt, OtherProcess, Refused, TimedOut
+from .replies import Blame, Diagnosis, Graph, Level, Minimum, Probe, Verdict
 from .service import Service, find_program
 from .session import Session
 
 __all__ = [
+    "BadScript",
     "BadTable",
     "Blame",
+    "Board",
+    "Case",
+    "Changed",
     "DiagError",
     "Diagnosis",
     "Ended",

@@ -56,6 +56,8 @@ def rank(session: Session, among: Iterable[str] | None, limit: int) -> list[Prop
     if isinstance(among, str):
         raise TypeError(f"among is a list of names, such as [{among!r}]")
     with session.copy() as scratch:
+        # If nothing explains the case, that is said of the session that was asked.
+        scratch.pattern = session.pattern
         # One more shows whether these are all.
         found = list(scratch.diagnoses(limit + 1))
         at_hand = found[:limit]

@@ -8,6 +8,7 @@ import logging
 import math
 import os
 import selectors
+import shlex
 import signal
 import subprocess
 import sys
@@ -75,7 +76,8 @@ class Child:
     """The running program, and what it still has to answer.
 
     What is asked is written whole, and while it is written all that is answered is read, so that no pipe is full while both sides wait.
-    An interrupt leaves all in step: what was asked stays asked, and its replies are taken when they come.
+    An interrupt leaves all in step: what was asked stays asked, and its replies are taken when they come. Of several threads one asks at
+    a time, and the others wait.
 
     The program ends with the last reference to its child, and with the interpreter. After a fork it is that of the first process.
     """
@@ -108,6 +110,8 @@ class Child:
         # A line that answered nothing, and what is said of it.
         self._stray = ("", "")
         self._in_step = True
+        # Held by the thread that writes or reads. To name what is refused, it may ask once more while it follows a reply.
+        self._lock = threading.RLock()
         self._over: Ended | None = None
         # What was asked and not answered when it ended.
         self.unanswered: list[Request] = []
@@ -144,61 +148,100 @@ class Child:
         text = "".join(request.sent for request in requests).encode("utf-8", "surrogateescape")
         if not self.is_own:
             raise OtherProcess(self._owner)
-        if not self._in_step:
-            self.stop()
-        if self._over is None and self._input.closed:
-            # Nothing more can be asked, and what still comes answers nothing of this.
-            while not self._is_out():
-                self._turn()
-            self._finish()
-        if self._over is not None:
-            raise self.ended()
-        with self._a_step():
-            if LOG.isEnabledFor(logging.DEBUG):
-                for line in text.decode("utf-8", "surrogateescape").splitlines():
-                    LOG.debug("to %d: %s", self._process.pid, line)
-            self._unsent += text
-            self._awaited.extend(requests)
-            self._watch(self._input, selectors.EVENT_WRITE)
+        with self._alone(self._deadline()):
+            if not self._in_step:
+                self.stop()
+            if self._over is None and self._input.closed:
+                # Nothing more can be asked, and what still comes answers nothing of this.
+                self._read_out(self._deadline(PATIENCE))
+                self._finish()
+            if self._over is not None:
+                raise self.ended()
+            with self._a_step():
+                if LOG.isEnabledFor(logging.DEBUG):
+                    for line in text.decode("utf-8", "surrogateescape").splitlines():
+                        LOG.debug("to %d: %s", self._process.pid, line)
+                self._unsent += text
+                self._awaited.extend(requests)
+                self._watch(self._input, selectors.EVENT_WRITE)
 
     def catch_up(self) -> None:
         """Waits for what an interrupt left to be answered."""
         if not self.is_own:
             raise OtherProcess(self._owner)
-        if self._awaited and self._in_step and self._over is None:
-            self._finish_reply(self._awaited[-1])
+        with self._alone(self._deadline()):
+            last = self._awaited[-1] if self._awaited and self._in_step and self._over is None else None
+        if last is not None:
+            self._finish_reply(last)
 
     def is_behind(self) -> bool:
         """Whether something that was asked is still to be answered, once all that has come by now is read. It waits for nothing."""
-        while self._awaited and self._in_step and self._over is None and self.is_own and not self._is_out():
-            if not self._turn(0):
-                return True
-        return False
+        if not self.is_own:
+            return False
+        if not self._lock.acquire(blocking=False):
+            return True
+        try:
+            while self._awaited and self._in_step and self._over is None and not self._is_out():
+                if not self._turn(0):
+                    return True
+            return False
+        finally:
+            self._lock.release()
 
     def close(self) -> int:
-        """Ends the script, waits for what is still to be answered and for the end, and gives the exit status."""
+        """Ends the script, waits for what is still to be answered and for the end, and gives the exit status.
+
+        If that takes too long, it ends the program at once: nobody waits for an answer any more.
+        """
         if self._over is None and self.is_own:
-            if not self._in_step:
+            deadline = self._deadline(PATIENCE)
+            try:
+                with self._alone(deadline):
+                    if not self._in_step:
+                        self.stop()
+                        return self._process.returncode
+                    self._read_out(deadline)
+                    self._finish("the service was closed")
+            except TimedOut as late:
+                LOG.warning("%s was still at work %g seconds after it was closed, and was stopped", shlex.join(self._words), late.seconds)
                 self.stop()
-                return self._process.returncode
-            while self._unsent and not self._is_out():
-                self._turn()
-            self._hang_up()
-            while not self._is_out():
-                self._turn()
-            self._finish("the service was closed")
+                return 0
         return self._process.returncode or 0
 
     def stop(self) -> None:
-        """Ends it at once, whatever it does."""
+        """Ends it at once, whatever it does, and whichever thread waits for it."""
         if self._over is None and self.is_own:
             _kill(self._process)
-            self._finish()
+            with self._lock:
+                self._finish()
 
     def ended(self) -> Ended:
         """How it ended, as an error of its own for each who asks."""
         assert self._over is not None
         return Ended(*self._over.args)
+
+    def _deadline(self, longest: float = math.inf) -> float:
+        return time.monotonic() + (longest if self._timeout is None else self._timeout)
+
+    @contextlib.contextmanager
+    def _alone(self, deadline: float) -> Iterator[None]:
+        """Holds the lock. Raises `TimedOut` if another thread does until the deadline."""
+        left = deadline - time.monotonic()
+        if not self._lock.acquire(timeout=max(0.0, left) if left < threading.TIMEOUT_MAX else -1):
+            raise TimedOut(self._timeout or PATIENCE)
+        try:
+            yield
+        finally:
+            self._lock.release()
+
+    def _read_out(self, deadline: float) -> None:
+        """Writes what is to be written, hangs up, and reads to the end. Raises `TimedOut` if that does not come until the deadline."""
+        while not self._is_out():
+            if not self._unsent and not self._input.closed:
+                self._hang_up()
+            if time.monotonic() >= deadline:
+                raise TimedOut(self._timeout or PATIENCE)
+            self._turn(max(0.0, min(deadline - time.monotonic(), LONGEST_WAIT)))
 
     def _finish_reply(self, request: Request) -> None:
         for _ in self._run_until(request):
@@ -206,15 +249,21 @@ class Child:
 
     def _run_until(self, request: Request) -> Iterator[None]:
         """Writes and reads until the request is answered, and all before it, and comes back each time that something was."""
-        timeout = math.inf if self._timeout is None else self._timeout
-        deadline = time.monotonic() + timeout
+        deadline = self._deadline()
         while not request.is_answered:
-            if self._is_out():
-                self._finish()
-                raise self.ended()
-            if not self._turn(max(0.0, min(deadline - time.monotonic(), LONGEST_WAIT))) and time.monotonic() >= deadline:
-                raise TimedOut(timeout)
+            with self._alone(deadline):
+                # Another thread may have read it meanwhile.
+                if not request.is_answered:
+                    self._turn_by(deadline)
             yield
+
+    def _turn_by(self, deadline: float) -> None:
+        """A turn of a program that has not ended. Raises `TimedOut` if nothing came until the deadline."""
+        if self._over is not None or self._is_out():
+            self._finish()
+            raise self.ended()
+        if not self._turn(max(0.0, min(deadline - time.monotonic(), LONGEST_WAIT))) and time.monotonic() >= deadline:
+            raise TimedOut(self._timeout or PATIENCE)
 
     def _turn(self, seconds: float = LONGEST_WAIT) -> bool:
         """Waits until some end is ready, and serves those that are: False if none was in time. An interrupt comes while it waits."""
@@ -325,6 +374,8 @@ class Child:
 
     def _finish(self, hint: str = "") -> None:
         """Waits for the end, and lets go of all that was held."""
+        if self._over is not None:
+            return
         self._hang_up()
         try:
             self._process.wait(PATIENCE)
@@ -343,6 +394,8 @@ class Child:
             last_line, said = self._stray if self._stray[1] else (self._last_line, self._said.strip().split("\n")[-1])
             if not self._in_step:
                 said = "stopped, since an error came in the midst of a reply"
+            if self._process.returncode < 0 and self._in_step:
+                hint = hint or "Service.restart() starts it again with all cases"
             self._over = Ended(self._words, self._process.returncode, last_line, said, hint)
 
     @staticmethod

@@ -14,7 +14,7 @@ from .errors import DiagError
 from .pictures import graphviz
 
 if TYPE_CHECKING:
-    from .pictures.case import Case
+    from .pictures.findings import Findings
     from .session import Session
 
 Row = TypeVar("Row")
@@ -101,16 +101,16 @@ def svg(session: Session) -> str | None:
     """The picture of a session, or None if there is none: without `dot`, without gates, or once the session is closed."""
     from .devices import read_device
     from .pictures import picture
-    from .pictures.case import Case
+    from .pictures.findings import Findings
 
     service = session.service
     if graphviz.find_dot() is None or service.file.suffix not in (".bench", ".dev") or not session.is_open:
         return None
-    case = (dict(session.seen), dict(session.held))
+    case = session.case
     known, drawn = _drawn.get(session, (None, None))
     if known != case:
         try:
-            text = picture.dot_text(read_device(service.file), Case.of(session), service.title)
+            text = picture.dot_text(read_device(service.file), Findings.of(session), service.title)
             drawn = graphviz.layout(text, "svg").decode()
         except (DiagError, OSError):
             # A notebook would show the error in place of the session.
@@ -121,29 +121,29 @@ def svg(session: Session) -> str | None:
 
 def session_html(session: Session) -> str | None:
     """The case of a session as tables, if there is no picture of it."""
-    from .pictures.case import Case
+    from .pictures.findings import Findings
 
     if not session.is_open or svg(session) is not None:
         return None
     try:
-        case = Case.of(session)
-        diagnoses = list(session.diagnoses(MOST_DIAGNOSES + 1)) if case.cost is not None else []
+        found = Findings.of(session)
+        diagnoses = list(session.diagnoses(MOST_DIAGNOSES + 1)) if found.cost is not None else []
     except DiagError:
         return None
-    told = [f"{session.service.title}; session {session.name}", case.summary()]
+    told = [f"{session.service.title}; session {session.name}", found.summary()]
     if diagnoses:
         more = ", and more" if len(diagnoses) > MOST_DIAGNOSES else ""
         told.append(f"diagnoses: {', '.join(map(str, diagnoses[:MOST_DIAGNOSES]))}{more}")
-    if case.following:
-        told.append(f"measure next: {case.following}")
-    return f"<p>{'<br>'.join(map(html.escape, told))}</p>" + _readings(case) + _held(case.held)
+    if found.following:
+        told.append(f"measure next: {found.following}")
+    return f"<p>{'<br>'.join(map(html.escape, told))}</p>" + _readings(found) + _held(found.case.held)
 
 
-def _readings(case: Case) -> str:
-    wrong = set(case.wrong())
+def _readings(found: Findings) -> str:
+    wrong = set(found.wrong())
     rows = []
-    for name, bit in case.seen.items():
-        expected = str(case.expected.get(name, "-"))
+    for name, bit in found.case.seen.items():
+        expected = str(found.expected.get(name, "-"))
         rows.append([html.escape(name), str(bit), f'<td style="color:#d7191c">{expected}</td>' if name in wrong else expected])
     return _table(["wire", "seen", "expected"], rows) if rows else ""
 

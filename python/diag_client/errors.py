@@ -77,6 +77,21 @@ class Refused(DiagError):
         return f"{self.text} (error {self.number}): {shown(self.line)}"
 
 
+class BadScript(DiagError, ValueError):
+    """A script says what no case can be. The text has the number of the line; nothing is taken from the script."""
+
+
+class Changed(DiagError, RuntimeError):
+    """A case was changed while it was listed."""
+
+    def __init__(self, what: str) -> None:
+        super().__init__(what)
+        self.what = what
+
+    def __str__(self) -> str:
+        return f"the case of {self.what} was changed while it was listed: list it again"
+
+
 class Inconsistent(DiagError):
     """No set of faulty parts explains what the session has seen and holds."""
 

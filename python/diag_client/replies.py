@@ -8,7 +8,6 @@ import os
 import pathlib
 import re
 from collections.abc import Callable, Iterator, Sequence
-from typing import Literal
 
 from . import display
 from .errors import Refused
@@ -18,8 +17,6 @@ REFUSAL = re.compile(r"error ([0-9]+) (.+)")
 # A command that there is not, so that its reply marks the end of what came before.
 MARK = "."
 MARKED = "error 1 unknown command"
-
-Mode = Literal["ok", "bad"]
 
 
 class NotAReply(Exception):

@@ -2,24 +2,27 @@
 
 from __future__ import annotations
 
+import collections
 import functools
 import itertools
+import math
 import os
 import pathlib
 import shutil
 import subprocess
 import weakref
 from collections.abc import Callable, Iterable, Iterator, Mapping, Sequence
-from typing import TYPE_CHECKING
+from typing import TYPE_CHECKING, NoReturn
 
 from . import hints, manual
 from .boards.joint import Joint
-from .boards.tables import Rows, read_table
+from .boards.tables import BadTable, Rows, read_table
+from .case import CHANGES, Board, Case
 from .child import Child
 from .devices import input_wires, other_names
 from .errors import Ended, NotBuilt, shown
 from .replies import AnyLines, Lines, Ready, Request
-from .session import BLANKS, CHANGES, Session
+from .session import BLANKS, Session, check_list
 
 if TYPE_CHECKING:
     from .boards.holding import JointProgress
@@ -98,6 +101,16 @@ def words_of(path: str, health: int | None, options: Mapping[str, int | bool | N
     return words
 
 
+def check_timeout(timeout: float | None) -> None:
+    """Raises TypeError or ValueError for what is no time to wait."""
+    if timeout is None:
+        return
+    if isinstance(timeout, bool) or not isinstance(timeout, (int, float)):
+        raise TypeError(f"timeout is a number of seconds, or None to wait for as long as it takes, and not {timeout!r}")
+    if not 0 < timeout < math.inf:
+        raise ValueError(f"timeout is more than 0 seconds, and not {timeout}; None waits for as long as it takes")
+
+
 def explained(ended: Ended, file: pathlib.Path) -> Exception:
     """Why a program ended before it was ready, with what to try; an OSError if this file cannot be read here."""
     if ended.status == 4 and ended.last_line == "error: read":
@@ -113,17 +126,17 @@ class Service:
     """A device that is served by a program of its own, which is started here and ended by `close` or at the end of `with`.
 
     `file` is a netlist (`.bench`) or a design (`.dev`). `budget`, `sessions`, `frames`, `levels` and `least` are the options of `diag
-    serve`; `others` are further ones that its help names. As many sessions as the program allows may be open at a time; with None it is
+    serve`. As many sessions as the program allows may be open at a time; with None it is
     the program's own default. The program looks for a forest by which the device is small unless `narrow` is False, which asks for the
     order of the names. With `health=N` the file is a graph (`.nnf`) whose first N variables are parts, and `diag ask` serves it. `program`
     is the program or launcher to start, a path or words; see `find_program` for what is started otherwise. `timeout` is how many seconds a
-    call, this one too, may wait for its answer; then it raises `TimedOut`.
+    call, this one too, may wait for its answer; then it raises `TimedOut`. Without it a call waits for as long as it takes.
 
     Raises TypeError or ValueError for wrong options, `NotBuilt` if there is no program, OSError if the file cannot be read, and `Ended` if
     the program refuses the device. What is sent and what comes is logged by `diag_client` at the level DEBUG.
 
-    A service is for one thread at a time; threads that share one need a lock. It belongs to the process that started it: after a fork the
-    other process gets `OtherProcess`.
+    Threads may share a service, and one waits for the other; for answers at the same time start one for each. It belongs to the process
+    that started it: after a fork the other process gets `OtherProcess`. A session that is dropped is closed.
 
     >>> with Service("examples/c17.bench") as service:
     ...     print(service.part_count, service.wire_count)
@@ -147,12 +160,12 @@ class Service:
         least: bool = False,
         program: Program | None = None,
         timeout: float | None = None,
-        **others: int | bool | None,
     ) -> None:
         self.file = pathlib.Path(file)
         self.frames = frames
-        options = {"narrow": narrow, "budget": budget, "sessions": sessions, "frames": frames, "levels": levels, "least": least, **others}
+        options = {"narrow": narrow, "budget": budget, "sessions": sessions, "frames": frames, "levels": levels, "least": least}
         check_options({**options, "health": health})
+        check_timeout(timeout)
         asked = words_of(os.fspath(file), health, options)
         start = find_program() if program is None else program
         words = [os.fspath(start)] if isinstance(start, (str, os.PathLike)) else [os.fspath(word) for word in start]
@@ -161,6 +174,11 @@ class Service:
         self._numbers = itertools.count(1)
         self._given: set[str] = set()
         self._open: weakref.WeakValueDictionary[str, Session] = weakref.WeakValueDictionary()
+        # What keeps a session that is closed from being closed once more when it is dropped, and the names of those that were dropped.
+        self._keepers: dict[str, Callable[[], object]] = {}
+        self._dropped: collections.deque[str] = collections.deque()
+        # So many sessions may be open; None if that is the program's own to say.
+        self.most_sessions = sessions
         self._names: tuple[tuple[str, ...], tuple[str, ...]] | None = None
         ready = Ready()
         self._child = self._start(ready)
@@ -169,6 +187,9 @@ class Service:
 
     def __enter__(self) -> Service:
         return self
+
+    def __reduce__(self) -> NoReturn:
+        raise TypeError("a service cannot be pickled or copied: start one in each process")
 
     def __exit__(self, kind: type[BaseException] | None, *_: object) -> None:
         if kind is None:
@@ -236,7 +257,8 @@ class Service:
     def session(self, name: str | int | None = None) -> Session:
         """Opens a session, by a name of your own or by one that is made, which is s and a number.
 
-        Raises `Refused` if as many are open as may be, if there is one of this name, or if it is no name.
+        Raises `Refused` if as many are open as may be, if there is one of this name, or if it is no name. A name is free again once its
+        session is closed or dropped.
         """
         if name is None:
             name = self.made_name()
@@ -256,8 +278,8 @@ class Service:
         """A name that no session has had."""
         return next(made for number in self._numbers if (made := f"s{number}") not in self._given)
 
-    def session_from(self, script: str | Iterable[str], name: str | int | None = None) -> Session:
-        """Opens a session with the case of a script, as `Session.load` reads it. No session is left open if a line is refused.
+    def session_from(self, script: str | Iterable[str] | Case, name: str | int | None = None) -> Session:
+        """Opens a session with a case, or that of a script, as `Session.load` reads it. No session is left open if a line is refused.
 
         >>> with Service("examples/c17.bench") as service, service.session_from("see S 22=1\\nhold S 10=ok\\n") as session:
         ...     dict(session.seen), dict(session.held)
@@ -271,24 +293,32 @@ class Service:
             raise
         return session
 
-    def patterns(self, source: str | os.PathLike[str] | Rows) -> dict[str, Session]:
+    def patterns(self, source: str | os.PathLike[str] | Rows | Board) -> dict[str, Session]:
         """Opens a session for each row of a table of test patterns, a file of comma-separated values or rows of cells, by its name.
 
-        The first row has names of wires, and each further row the bits that one pattern shows: 0, 1 or empty. A column `pattern` names the
-        patterns; without it they are p1, p2 and so on. Raises `BadTable`, with the row and the column, and opens no session then.
+        The first row has names of wires, and each further row the bits that one pattern shows: 0 or 1, and X, Z, - or nothing if none was
+        read. A column `pattern` names the patterns; without it they are p1, p2 and so on. A `Board` has them too. Raises `BadTable`, with
+        the row and the column, and opens no session then. If a session of a pattern's name is open, the new one has a made name.
 
         >>> with Service("examples/c17.bench") as service:
         ...     patterns = service.patterns([["1", "3", "22", "16"], [0, 0, 1, 1], [1, 1, 0, 1]])
         ...     print({name: session.minimum().cost for name, session in patterns.items()}, service.together(patterns.values()).minimum())
         {'p1': 1, 'p2': 1} Minimum(cost=1, faulty=('10',))
         """
-        rows = read_table(source, self.wires, self.other_names)
-        opened = {row.name: Session(self, row.name) for row in rows}
-        self._given.update(opened)
+        board = source if isinstance(source, Board) else read_table(source, self.wires, self.other_names)
+        most = self.most_sessions
+        if most is not None and len(board.patterns) > most:
+            where = os.fspath(source) if isinstance(source, (str, os.PathLike)) else "the table"
+            searched = f"at most {most} sessions are open at a time, of which {most // 2} can be searched together"
+            raise BadTable(f"{where}: {len(board.patterns)} patterns, and {searched}")
+        self._given.update(board.patterns)
+        names = {name: self.made_name() if self.has_open(name) else name for name in board.patterns}
+        opened = {name: Session(self, made, name) for name, made in names.items()}
         try:
             # A session that was open before is not to see anything.
             self.do([session.opening() for session in opened.values()])
-            self.do([request for row in rows for request in opened[row.name].seeing(row.seen)])
+            cases = [(opened[name], case) for name, case in board.patterns.items()]
+            self.do([request for session, case in cases for request in [*session.seeing(case.seen), *session.holding(case.held)]])
         except BaseException:
             for session in opened.values():
                 session.abandon()
@@ -321,13 +351,13 @@ class Service:
         [['S ok'], ['S error 9 no wire'], [], ['S min 0']]
         {'22': 1}
         """
-        requests = [self._request(line) for line in lines]
+        requests = [self._request(line) for line in check_list(lines, "lines")]
         self.carry_out([request for request in requests if request is not None])
         return [[] if request is None else request.lines for request in requests]
 
     def carry_out(self, requests: Sequence[Request]) -> None:
         """Asks all of these at once, and waits for their replies. Raises `Ended` if the program ends before."""
-        self._child.ask(requests)
+        self._child.ask([*self._closings(), *requests])
 
     def do(self, requests: Sequence[Request]) -> None:
         """The same, and then raises the first refusal."""
@@ -336,11 +366,11 @@ class Service:
 
     def follow(self, requests: Sequence[Request]) -> Iterator[None]:
         """The same, but comes back each time that a piece of the replies was read, so that they can be printed as they come."""
-        return self._child.follow(requests)
+        return self._child.follow([*self._closings(), *requests])
 
     def send(self, requests: Sequence[Request]) -> None:
         """The same, and waits for nothing."""
-        self._child.send(requests)
+        self._child.send([*self._closings(), *requests])
 
     def catch_up(self) -> None:
         """Waits for what an interrupt left to be answered, so that each session knows what the program knows of it."""
@@ -360,6 +390,8 @@ class Service:
         """
         old = self._child
         old.stop()
+        # A new program has none of the sessions that were dropped.
+        self._closings()
         child = self._start(Ready())
         try:
             known = [request for session in list(self._open.values()) for request in session.reopening()]
@@ -379,7 +411,7 @@ class Service:
     def close(self) -> None:
         """Ends the program, once all that was asked is answered. Raises `Ended` if it ends with another status than 0.
 
-        A service that has ended, or was closed, or belongs to another process, stays as it is.
+        It waits for `timeout` seconds, or 10 if there is none, and then ends the program at once, which loses nothing. A service that has ended, or was closed, or belongs to another process, stays as it is.
         """
         if not self.is_running:
             return
@@ -402,10 +434,23 @@ class Service:
     def note_open(self, session: Session) -> None:
         """A session is open from now on."""
         self._open[session.name] = session
+        closer = weakref.finalize(session, self._dropped.append, session.name)
+        closer.atexit = False
+        self._keepers[session.name] = closer.detach
 
     def note_closed(self, session: Session) -> None:
         """A session is closed from now on."""
-        self._open.pop(session.name, None)
+        if self._open.pop(session.name, None) is not None:
+            self._keepers.pop(session.name)()
+
+    def _closings(self) -> list[Request]:
+        """The lines that close the sessions that were dropped."""
+        closings: list[Request] = []
+        while self._dropped:
+            name = self._dropped.popleft()
+            self._keepers.pop(name, None)
+            closings.append(Lines(name, f"close {name}", reply="closed"))
+        return closings
 
     def _start(self, ready: Ready) -> Child:
         """The program, started and ready."""

@@ -8,11 +8,13 @@ import itertools
 import re
 import types
 from collections.abc import Iterable, Iterator, Mapping, Sequence
-from typing import TYPE_CHECKING
+from typing import TYPE_CHECKING, NoReturn
 
 from . import advice, display
-from .errors import DiagError, Inconsistent
-from .replies import AnyLines, Blame, Diagnosis, Graph, GraphText, Level, Lines, Listing, Minimum, Mode, Probe, Request, Verdict
+from .case import CHANGES, Case, Mode, change
+from .errors import Changed, DiagError, Inconsistent
+from .readings import at_odds
+from .replies import AnyLines, Blame, Diagnosis, Graph, GraphText, Level, Lines, Listing, Minimum, Probe, Request, Verdict
 
 if TYPE_CHECKING:
     from .advice import Proposal
@@ -21,20 +23,12 @@ if TYPE_CHECKING:
 
 BLANKS = " \t\r\n"
 BLANK = re.compile(f"[{BLANKS}]")
-# What a session, and so a pattern, may be called.
-SESSION_NAME = re.compile("(?:(?![(),=#])[!-~]){1,64}")
-NAME_RULE = "1 to 64 printable ASCII characters, no blanks and none of ( ) , = #"
-# True is written as 1.
-BITS = {0: "0", 1: "1"}
 FIRST_PAGE = 8
 LARGEST_PAGE = 512
 # The commands that list states: the word of their lines, and how many words are between it and the names of the faulty parts.
 LISTINGS = {"list": ("diag", 0), "levels": ("level", 1)}
-# The commands that change a case, and those that only ask.
-CHANGES = ("see", "unsee", "hold", "unhold")
 # The commands whose words are names, which may be other names of wires.
 NAMING = (*CHANGES, "probe", "after")
-QUESTIONS = ("min", "next", "list", "after", "probe", "probes", "blame", "dnnf", "level", "levels", "leastnnf")
 
 
 class Session:
@@ -53,9 +47,11 @@ class Session:
     10, 22
     """
 
-    def __init__(self, service: Service, name: str) -> None:
+    def __init__(self, service: Service, name: str, pattern: str = "") -> None:
         self.service = service
         self.name = name
+        # What advice over several sessions calls it.
+        self.pattern = pattern or name
         self._seen: dict[str, int] = {}
         self._held: dict[str, Mode] = {}
         self._is_open = False
@@ -72,6 +68,9 @@ class Session:
             self.close()
         else:
             self.abandon()
+
+    def __reduce__(self) -> NoReturn:
+        raise TypeError("a session cannot be pickled or copied so: pickle its case, and open it by session_from; copy() opens a twin")
 
     def __repr__(self) -> str:
         return f"<Session {self.name} of {self.service.file.name}: {len(self._seen)} seen, {len(self._held)} held>"
@@ -93,6 +92,11 @@ class Session:
         return types.MappingProxyType(self._held)
 
     @property
+    def case(self) -> Case:
+        """What was seen and held, as it is at this moment."""
+        return Case(dict(self._seen), dict(self._held))
+
+    @property
     def is_open(self) -> bool:
         """Whether it is open, by the replies so far."""
         return self._is_open
@@ -108,15 +112,32 @@ class Session:
 
     def opening(self) -> Lines:
         """The line that opens the session, for `Service.carry_out`."""
-        self._opened_by = self._opening()
+
+        def note(_: Sequence[str]) -> None:
+            self._is_open = True
+            # The line knows the session, which is dropped only if it does not know the line.
+            self._opened_by = None
+            self.service.note_open(self)
+
+        self._opened_by = Lines(self.name, self._line("open"), reply="open", note=note)
         return self._opened_by
 
     def seeing(self, seen: Mapping[str, int]) -> list[Lines]:
         """The lines of `see`, for `Service.carry_out`."""
-        words = [f"{wire}={BITS.get(bit, bit)}" for wire, bit in seen.items()]
-        if why := at_odds(words, self.service.other_names):
-            raise ValueError(why)
-        return self._changed("see", words)
+        return self._changed("see", _words(seen))
+
+    def holding(self, held: Mapping[str, Mode]) -> list[Lines]:
+        """The lines of `hold`, for `Service.carry_out`."""
+        return self._changed("hold", _words(held))
+
+    def becoming(self, case: Case) -> list[Lines]:
+        """The lines after which the session knows just this, for `Service.carry_out`."""
+        return [
+            *self._changed("unsee", [wire for wire in self._seen if wire not in case.seen]),
+            *self.seeing({wire: bit for wire, bit in case.seen.items() if self._seen.get(wire) != bit}),
+            *self._changed("unhold", [part for part in self._held if part not in case.held]),
+            *self.holding({part: mode for part, mode in case.held.items() if self._held.get(part) != mode}),
+        ]
 
     def close(self) -> None:
         """Closes the session, and what it knew is gone. Does nothing if it, or the service, is closed, or belongs to another process."""
@@ -158,7 +179,7 @@ class Session:
             ...
         diag_client.errors.Refused: no wire (error 9): see s1 nowhere=1
         """
-        self.service.do(self.seeing({**(seen or {}), **wires}))
+        self.service.do(self._changed("see", [*_words(seen or {}), *_words(wires)]))
 
     def unsee(self, *wires: str) -> None:
         """Nothing was seen of these wires."""
@@ -174,8 +195,7 @@ class Session:
         ...     print(session.minimum())
         Minimum(cost=1, faulty=('half',))
         """
-        values = {**(held or {}), **parts}
-        self.service.do(self._changed("hold", [f"{part}={mode}" for part, mode in values.items()]))
+        self.service.do(self._changed("hold", [*_words(held or {}), *_words(parts)]))
 
     def unhold(self, *parts: str) -> None:
         """These parts are held no more."""
@@ -195,7 +215,7 @@ class Session:
         """The diagnoses one after the other, at most `limit` of them: from the first, or after the state that `after` names.
 
         They are asked page by page as they are taken, by `list`. Each call begins anew, and several may be under way. What is taken after
-        the case was changed raises RuntimeError.
+        the case was changed raises `Changed`.
 
         >>> with Service("examples/c17.bench") as service, service.session() as session:
         ...     session.see({"1": 0, "3": 0, "22": 1, "16": 1})
@@ -321,10 +341,10 @@ class Session:
         ...         print(session.minimum().cost, other.minimum().cost)
         0 1
         """
-        return self.service.session_from(self.script(), name)
+        return self.service.session_from(self.case, name)
 
     def script(self) -> str:
-        """The case as lines of a script, without the one that opens the session. `load` reads them.
+        """The case as lines of a script, without the one that opens the session. `load` and `Case.from_script` read them.
 
         >>> with Service("examples/c17.bench") as service, service.session("S") as session:
         ...     session.see({"1": 0, "22": 1})
@@ -334,19 +354,21 @@ class Session:
         see S 22=1
         hold S 10=ok
         """
-        return "".join(request.sent for request in self.restoring(self.name))
+        return self.case.script(self.name)
 
-    def load(self, script: str | Iterable[str], of: str | None = None) -> None:
-        """Adds the case of a script, a text or its lines: that of the session that it names last, or of the one that is named.
+    def load(self, script: str | Iterable[str] | Case, of: str | None = None) -> None:
+        """Adds a case, or that of a script, a text or its lines: of the session that it names last, or of the one that is named.
 
-        Lines that change the case are carried out as `see` does; questions, comments and other sessions are passed over.
+        What it says in the end is carried out as by `see` and `hold`; questions, comments and other sessions are passed over. Raises
+        `BadScript` for a line that is none of a script.
 
         >>> with Service("examples/c17.bench") as service, service.session() as session:
         ...     session.load("open S\\nsee S 1=0\\nsee S 22=1\\nmin S\\n")
         ...     dict(session.seen)
         {'1': 0, '22': 1}
         """
-        self.service.do(self.requests(case_lines(script, of)))
+        case = script if isinstance(script, Case) else Case.from_script(script, of)
+        self.service.do([*self.seeing(case.seen), *self.holding(case.held)])
 
     def expected(self) -> dict[str, int]:
         """The bits that wires have if all parts are ok, given the inputs that were seen. Wires that these do not fix are left out.
@@ -393,7 +415,7 @@ class Session:
         ...     session.batch(["see 22=1", "see 99=1", "list 5"])
         [['S ok'], ['S error 9 no wire'], ['S diag', 'S end']]
         """
-        requests = [self.request(*line.split()) for line in lines]
+        requests = [self.request(*line.split()) for line in check_list(lines, "lines")]
         self.service.carry_out(requests)
         return [request.lines for request in requests]
 
@@ -437,22 +459,9 @@ class Session:
         """The same as one request. The words have no blanks."""
         return AnyLines([" ".join([command, self.name, *self._named(command, words)]) for command, *words in rows], self.name, self._note_line)
 
-    def change(self, command: str, *words: str) -> None:
-        """Carries out a line of a script that opens or closes the session, or changes its case: `see`, `unsee`, `hold` or `unhold`.
-
-        >>> with Service("examples/c17.bench") as service, service.session() as session:
-        ...     session.change("see", "22=1")
-        ...     dict(session.seen)
-        {'22': 1}
-        """
-        makes = {"open": self._opening, "close": self._closing}
-        self.service.do([makes[command](*words) if command in makes else self._change(command, *words)])
-
     def probe_each(self, wires: Iterable[str]) -> list[Probe]:
         """`probe` of each of these wires, all asked at once."""
-        if isinstance(wires, str):
-            raise TypeError(f"wires are given as a list of names, as [{wires!r}]")
-        requests = [Listing(self.name, self._line("probe", wire), last="probe inconsistent") for wire in wires]
+        requests = [Listing(self.name, self._line("probe", wire), last="probe inconsistent") for wire in check_list(wires, "wires")]
         self.service.do(requests)
         return [_probe(row) for request in requests for row in self._rows(request, "probe")]
 
@@ -490,7 +499,7 @@ class Session:
 
     def _rows(self, request: Listing, word: str) -> list[list[str]]:
         if request.is_inconsistent:
-            raise Inconsistent(self.name)
+            raise Inconsistent(self.pattern)
         return request.told(word)
 
     def _graph(self, command: str) -> Graph:
@@ -508,10 +517,10 @@ class Session:
             told = self._page(command, point, size)
             for row in told:
                 if self._changes != changes:
-                    raise RuntimeError(f"the case of session {self.name} was changed while its states were taken")
+                    raise Changed(f"session {self.name}")
                 yield row
             if self._changes != changes:
-                raise RuntimeError(f"the case of session {self.name} was changed while its states were taken")
+                raise Changed(f"session {self.name}")
             if len(told) < size:
                 return
             point = self._faulty(command, told[-1])
@@ -533,26 +542,19 @@ class Session:
         """Lines that put the program's point somewhere, or take it back, and change nothing else."""
         if point is not None:
             return [self._answered("after", *point)]
-        for command, words in self._known():
-            return [Lines(self.name, f"{command} {self.name} {next(words)}")]
+        for command, words in self.case.words():
+            return [Lines(self.name, f"{command} {self.name} {words[0]}")]
         # Nothing is known, so nothing is lost. A session that is closed stays so.
         return [self._answered("close", reply="closed"), self._answered("open", reply="open")] if self._is_open else []
 
     def restoring(self, name: str) -> list[Lines]:
         """Lines that make the case of the session with this name what it is here. Nothing is noted of them."""
-        return [Lines(name, f"{command} {name} ", list(words)) for command, words in self._known()]
+        return [Lines(name, f"{command} {name} ", words) for command, words in self.case.words()]
 
     def reopening(self) -> list[Request]:
         """Lines that give a program that is started anew what this session knows."""
         after = [] if self._start is None else [self._answered("after", *self._start)]
         return [self._answered("open", reply="open"), *self.restoring(self.name), *after]
-
-    def _known(self) -> Iterator[tuple[str, Iterator[str]]]:
-        """What is seen and held, if anything is, by the command that says so."""
-        cases: dict[str, Mapping[str, object]] = {"see": self._seen, "hold": self._held}
-        for command, known in cases.items():
-            if known:
-                yield command, (f"{name}={value}" for name, value in known.items())
 
     def _inputs_seen(self) -> dict[str, int]:
         return {wire: self._seen[wire] for wire in sorted(self._seen.keys() & self.service.inputs)}
@@ -566,7 +568,10 @@ class Session:
         return Lines(self.name, self._line(command, *words), note=lambda _: self._note(command, self._named(command, words[:1])))
 
     def _changed(self, command: str, words: Iterable[str]) -> list[Lines]:
-        """Lines that change the case, one for each word, as one request."""
+        """Lines that change the case, one for each word, as one request. Raises ValueError if two of them are at odds."""
+        words = list(words)
+        if command in ("see", "hold") and (why := at_odds(words, self.service.other_names)):
+            raise ValueError(why)
         texts = self._named(command, [*map(str, words)])
         if "" in texts or BLANK.search("".join(texts)):
             _check_words(texts)
@@ -574,15 +579,7 @@ class Session:
 
     def _note(self, command: str, words: Sequence[str]) -> None:
         """Lines of a command that changes the case were carried out, one for each word."""
-        rows = [word.partition("=") for word in words]
-        if command == "see":
-            self._seen.update((wire, int(bit)) for wire, _, bit in rows)
-        elif command == "hold":
-            self._held.update((part, "ok" if mode == "ok" else "bad") for part, _, mode in rows)
-        else:
-            known: dict[str, int] | dict[str, Mode] = self._seen if command == "unsee" else self._held
-            for name, _, _ in rows:
-                known.pop(name, None)
+        change(self._seen, self._held, command, words)
         self._changes += len(words)
         self._start = None
 
@@ -592,14 +589,7 @@ class Session:
         if command in CHANGES:
             self._note(command, words)
 
-    def _opening(self, *words: str) -> Lines:
-        def note(_: Sequence[str]) -> None:
-            self._is_open = True
-            self.service.note_open(self)
-
-        return Lines(self.name, self._line("open", *words), reply="open", note=note)
-
-    def _closing(self, *words: str) -> Lines:
+    def _closing(self) -> Lines:
         def note(_: Sequence[str]) -> None:
             self._is_open = False
             self.service.note_closed(self)
@@ -608,41 +598,19 @@ class Session:
             self._changes += 1
             self._start = None
 
-        return Lines(self.name, self._line("close", *words), reply="closed", note=note)
+        return Lines(self.name, self._line("close"), reply="closed", note=note)
 
 
-def at_odds(readings: Iterable[str], others: Mapping[str, str]) -> str:
-    """Why readings cannot all be right: two names of one wire have different bits. It is empty if they can.
-
-    >>> at_odds(["n=0", "y=1"], {"y": "n"})
-    'n=0 and y=1 are readings of one wire; nothing was taken'
-    """
-    first: dict[str, tuple[str, str]] = {}
-    for name, _, bit in (reading.rpartition("=") for reading in readings if others):
-        other, before = first.setdefault(others.get(name, name), (name, bit))
-        if name != other and bit != before:
-            return f"{other}={before} and {name}={bit} are readings of one wire; nothing was taken"
-    return ""
+def _words(values: Mapping[str, object]) -> list[str]:
+    """The words that say what wires or parts have."""
+    return [f"{name}={int(value) if isinstance(value, bool) else value}" for name, value in values.items()]
 
 
-def case_lines(script: str | Iterable[str], of: str | None = None) -> list[list[str]]:
-    """The commands of a script that change the case of one session, and their words, the session's name left out.
-
-    That is the session that is named, or the one that the script names last. What was said before it was opened again does not count.
-
-    >>> case_lines("open S\\nsee S 1=1\\nopen T\\nsee T 1=0\\nmin T\\n")
-    [['see', '1=0']]
-    """
-    rows = [line.split() for line in (script.split("\n") if isinstance(script, str) else script)]
-    rows = [row for row in rows if len(row) > 1 and not row[0].startswith("#") and row[0] not in QUESTIONS]
-    about = of or (rows[-1][1] if rows else "")
-    found: list[list[str]] = []
-    for command, name, *words in rows:
-        if name == about and command == "open":
-            found.clear()
-        elif name == about and command != "close":
-            found.append([command, *words])
-    return found
+def check_list(given: Iterable[str], what: str) -> Iterable[str]:
+    """Raises TypeError for a text, which would be taken letter by letter."""
+    if isinstance(given, str):
+        raise TypeError(f"{what} are given as a list, as [{given!r}]")
+    return given
 
 
 def _check_words(texts: Iterable[str]) -> None:

@@ -1,28 +1,29 @@
-"""Cases and boards of the page at the bench."""
+"""Records and boards of the page at the bench."""
 
 import unittest
 from unittest import mock
 
 from support import C17, EXAMPLES, SOON, kill, needs_program
 
-from diag_client.bench import boards, cases
-from diag_client.bench.cases import Bad, Case
+from diag_client import Board, Case
+from diag_client.bench import boards, records
+from diag_client.bench.records import Bad, Record
 
-KNOWN = cases.Known({"a", "b", "pattern2"}, {"g"}, {"a", "b"})
+KNOWN = records.Known({"a", "b", "pattern2"}, {"g"}, {"a", "b"})
 ZEROS = "1=0 2=0 3=0 6=0 7=0"
 
 
 class Texts(unittest.TestCase):
     """What is pasted and loaded."""
 
-    def refused(self, text, read=cases.read_readings):
+    def refused(self, text, read=records.read_readings):
         with self.assertRaises(Bad) as caught:
             read(text, KNOWN)
         return str(caught.exception)
 
     def test_pairs(self):
-        self.assertEqual(cases.read_readings(" a=0, b=1\n", KNOWN), [("", {"a": 0, "b": 1})])
-        self.assertEqual(cases.read_readings("a=x b=", KNOWN), [("", {"a": None, "b": None})])
+        self.assertEqual(records.read_readings(" a=0, b=1\n", KNOWN), [("", {"a": 0, "b": 1})])
+        self.assertEqual(records.read_readings("a=x b=", KNOWN), [("", {"a": None, "b": None})])
         self.assertIn("c", self.refused("a=0 c=1"))
         self.assertIn("a=2", self.refused("a=2"))
         self.assertIn("'b'", self.refused("a=1 b"))
@@ -31,38 +32,40 @@ class Texts(unittest.TestCase):
         self.assertIn("a=0 b=1", self.refused(""))
 
     def test_tables(self):
-        self.assertEqual(cases.read_readings("a,b\n0,1\n,0\n", KNOWN), [("", {"a": 0, "b": 1}), ("", {"b": 0})])
-        self.assertEqual(cases.read_readings("pattern;a\r\nlow;0\r\nhigh;1", KNOWN), [("low", {"a": 0}), ("high", {"a": 1})])
+        self.assertEqual(records.read_readings("a,b\n0,1\n,0\n", KNOWN), [("", {"a": 0, "b": 1}), ("", {"b": 0})])
+        self.assertEqual(records.read_readings("pattern;a\r\nlow;0\r\nhigh;1", KNOWN), [("low", {"a": 0}), ("high", {"a": 1})])
         self.assertIn("row 3", self.refused("a,b\n0,1\n0"))
         self.assertIn("no wire 'c'", self.refused("a,c\n0,1"))
         self.assertIn("row 2", self.refused("a,b\nmaybe,1"))
 
     def test_names_have_times(self):
         """The drawing shows a wire without its time."""
-        known = cases.Known({"a@0001", "a@0002"}, {"g"}, {"a"})
-        self.assertEqual(cases.read_readings("a@0002=1", known), [("", {"a@0002": 1})])
+        known = records.Known({"a@0001", "a@0002"}, {"g"}, {"a"})
+        self.assertEqual(records.read_readings("a@0002=1", known), [("", {"a@0002": 1})])
         with self.assertRaisesRegex(Bad, "a has a reading for each time: write a@0001 for the first"):
-            cases.read_readings("a=1", known)
+            records.read_readings("a=1", known)
         for text in ("a@1=1", "a@0003=1"):
             with self.assertRaisesRegex(Bad, f"{text[:-2]} is at no time of these: the first is a@0001"):
-                cases.read_readings(text, known)
+                records.read_readings(text, known)
         with self.assertRaisesRegex(Bad, "no wire b@1: names"):
-            cases.read_readings("b@1=1", known)
+            records.read_readings("b@1=1", known)
 
     def test_rows_are_patterns(self):
-        case = cases.take_readings(Case(), cases.read_readings("a,b\n0,1\n1,0\n", KNOWN))
-        self.assertEqual([(row.name, row.seen) for row in case.patterns], [("P1", {"a": 0, "b": 1}), ("P2", {"a": 1, "b": 0})])
-        case = cases.take_readings(case, cases.read_readings("pattern,a\nP1,1\nnew,0", KNOWN))
-        self.assertEqual([(row.name, row.seen.get("a")) for row in case.patterns], [("P1", 1), ("P2", 1), ("new", 0)])
+        record = records.take_readings(Record(), records.read_readings("a,b\n0,1\n1,0\n", KNOWN))
+        self.assertEqual(record.board, Board({"P1": Case({"a": 0, "b": 1}), "P2": Case({"a": 1, "b": 0})}))
+        record = records.take_readings(record, records.read_readings("pattern,a\nP1,1\nnew,0", KNOWN))
+        self.assertEqual([(name, case.seen.get("a")) for name, case in record.board.patterns.items()], [("P1", 1), ("P2", 1), ("new", 0)])
+        record = records.take_readings(Record().with_held({"g": "ok"}), records.read_readings("pattern,a\nlow,1\n", KNOWN))
+        self.assertEqual(record.board, Board({"low": Case({"a": 1}, {"g": "ok"})}))
 
     def test_a_saved_case_is_loaded(self):
-        case = Case().with_readings({"a": 0, "b": 1}).with_pattern("low").with_readings({"a": 1})
-        case = boards.dataclasses.replace(case, held={"g": "bad"}, unreachable=frozenset("b"), replaced="U7\nU8", now=0)
-        self.assertEqual(cases.read_script("\n".join(case.script("title")), KNOWN), case)
+        record = Record().with_readings({"a": 0, "b": 1}).with_pattern("low").with_readings({"a": 1}).with_held({"g": "bad"})
+        record = boards.dataclasses.replace(record, unreachable=frozenset("b"), replaced="U7\nU8", now=0)
+        self.assertEqual(records.read_script("\n".join(record.script("title")), KNOWN), record)
 
     def test_a_case_of_the_terminal_is_loaded(self):
-        case = cases.read_script("see S a=0\r\nhold S g=ok\nmin S\n", KNOWN)
-        self.assertEqual((case.patterns, case.held), ((cases.Pattern("S", {"a": 0}),), {"g": "ok"}))
+        record = records.read_script("see S a=0\r\nhold S g=ok\nmin S\n", KNOWN)
+        self.assertEqual(record.board, Board({"S": Case({"a": 0}, {"g": "ok"})}))
 
     def test_scripts_are_refused_by_their_lines(self):
         for text, wanted in (
@@ -70,24 +73,24 @@ class Texts(unittest.TestCase):
             ("open P1\nsee P1 a=2", "line 2: a=2"),
             ("open P1\nhold P1 h=ok", "line 2: no part h"),
             ("open P1\nhold P1 g=fine", "line 2: g=fine"),
-            ("open P1\nsee P1 a=0 b=1", "line 2: not understood"),
-            ("see a=0", "such as `see P1 a=0`"),
-            ("open P 1", "no reading in it"),
+            ("open P1\nsee P1 a=0 b=1", "line 2: `see P1 a=0 b=1` is not understood"),
+            ("see a=0", "such as `see S a=0`"),
+            ("open P 1", "line 1: `open P 1` is not understood"),
             ("# cannot reach c", "line 1: no wire c"),
             ("open (b)", "no name of a pattern"),
             ("", "no reading in it"),
         ):
-            self.assertIn(wanted, self.refused(text, cases.read_script), text)
+            self.assertIn(wanted, self.refused(text, records.read_script), text)
 
     def test_patterns(self):
-        case = Case().with_pattern().with_pattern("x")
-        self.assertEqual([row.name for row in case.patterns], ["P1", "P2", "x"])
-        self.assertEqual(case.with_pattern("t:01<b>").pattern.name, "t:01<b>")
-        self.assertEqual(case.without_pattern("P2").now, 1)
-        self.assertEqual(Case().without_pattern("P1"), Case())
+        record = Record().with_pattern().with_pattern("x")
+        self.assertEqual(record.names, ["P1", "P2", "x"])
+        self.assertEqual(record.with_pattern("t:01<b>").names[-1], "t:01<b>")
+        self.assertEqual(record.without_pattern("P2").now, 1)
+        self.assertEqual(Record().without_pattern("P1"), Record())
         for name in ("x", "a b", "a,b", "#", "é", "y" * 65):
             with self.subTest(name), self.assertRaises(Bad):
-                case.with_pattern(name)
+                record.with_pattern(name)
 
 
 @needs_program
@@ -215,9 +218,9 @@ class OnC17(unittest.TestCase):
             with mock.patch.object(boards, "MOST_LINES", 9), self.assertRaisesRegex(Bad, "at most 9"):
                 self.do("load" if "open" in text else "readings", text=text)
         self.assertEqual(self.board.state(), before)
-        case = self.board.case.with_pattern().with_readings({"1": 0})
-        case = boards.dataclasses.replace(case, held={"10": "ok"}, unreachable=frozenset({"11"}), replaced="U1\nU2")
-        self.assertEqual(case.line_count, len(case.script("title")))
+        record = self.board.record.with_pattern().with_readings({"1": 0}).with_held({"10": "ok"})
+        record = boards.dataclasses.replace(record, unreachable=frozenset({"11"}), replaced="U1\nU2")
+        self.assertEqual(record.line_count, len(record.script("title")))
 
     def test_undo_has_a_quota(self):
         with mock.patch.object(boards, "MOST_KEPT", 10):

@@ -133,7 +133,7 @@ class Served(unittest.TestCase):
         for origin in ("http://evil.example", "null", *near, "", None):
             self.assertEqual(self.post({"act": "state"}, Origin=origin)[0], 403, origin)
         self.assertEqual(self.ask("GET", self.top, Origin="http://evil.example")[0], 403)
-        self.assertEqual(self.board.case, boards.Case())
+        self.assertEqual(self.board.record, boards.Record())
 
     def test_bodies(self):
         self.assertEqual(self.post({}, Content_Type="text/plain")[0], 415)

@@ -47,7 +47,7 @@ class Examples(unittest.TestCase):
         """Every method of a session is tried in its docstring, except some, which other tests try."""
         tried_elsewhere = {
             "open", "close", "unsee", "unhold", "probes", "probe_each", "rank_probes", "diagnoses_with", "restoring", "reopening",
-            "opening", "seeing", "placing", "requests", "piece",
+            "opening", "seeing", "holding", "becoming", "placing", "requests", "piece",
         }
         for name, method in vars(diag_client.Session).items():
             if inspect.isfunction(method) and not name.startswith("_") and name not in tried_elsewhere:

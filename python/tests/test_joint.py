@@ -12,11 +12,11 @@ from unittest import mock
 
 from support import C17, EXAMPLES, TOP, kill, needs_program
 
-from diag_client import BadTable, DiagError, Inconsistent, Refused, Service, Session
+from diag_client import BadTable, Case, DiagError, Inconsistent, Refused, Service, Session
+from diag_client import case
 from diag_client.boards import holding
 from diag_client.boards.tables import read_table
 from diag_client.replies import Verdict
-from diag_client.session import case_lines
 from diag_client.terminal import patterns, shell
 
 TABLE = "pattern,1,2,3,6,7,22,23\none,0,0,0,0,0,1,0\ntwo,1,0,1,0,0,0,0\n"
@@ -52,9 +52,8 @@ class Together(unittest.TestCase):
         for name in ("pump.dev", "costs.dev", "full_adder.bench", "adder.dev"):
             file = EXAMPLES / name
             with self.subTest(name), Service(file, narrow=False) as service, service.session() as session:
-                for words in case_lines(file.with_suffix(".script").read_text()):
-                    with contextlib.suppress(Refused):
-                        session.change(*words)
+                with contextlib.suppress(Refused):
+                    session.load(file.with_suffix(".script").read_text())
                 joint = service.together([session])
                 self.assertEqual(joint.minimum(), session.minimum())
                 self.assertEqual(list(joint.diagnoses()), list(session.diagnoses()))
@@ -150,7 +149,7 @@ class Tables(unittest.TestCase):
                 "1,2\n": "a row for each pattern",
                 "1,99\n0,1\n": "row 1, column 2: no wire '99'",
                 "1,1\n0,1\n": "row 1, column 2: a second column '1'",
-                "1,2\n0,1\n\n0,x\n": "row 4, column 2 (2): not 0, 1 or empty: 'x'",
+                "1,2\n0,1\n\n0,2\n": "row 4, column 2 (2): not '2': a reading is 0 or 1, and X, Z, - or nothing if there is none",
                 "1,2\n0,1\n0\n": "row 3, column 2: 1 cells, and the first row has 2",
                 "1,2\n0,1,1\n": "row 2, column 3: 3 cells, and the first row has 2",
                 "pattern,1\na b,1\n": "row 2, column 1: not the name of a pattern",
@@ -177,8 +176,7 @@ class Tables(unittest.TestCase):
             for text, wires in (("a;b\r\n0;1\r\n", "ab"), ("a\tb\n0\t1\n", "ab"), ("pattern;b\np1;1\n", "b"), ("a;b\n1\n", ["a;b"]), ("a;b,c\n1,0\n", ["a;b", "c"])):
                 path.write_text(text)
                 with self.subTest(text):
-                    [row] = read_table(path, wires)
-                    self.assertEqual((row.name, list(row.seen)), ("p1", list(wires)))
+                    self.assertEqual([(name, list(case.seen)) for name, case in read_table(path, wires).patterns.items()], [("p1", list(wires))])
             path.write_text("a;z\n0;1\n")
             with self.assertRaisesRegex(BadTable, "row 1, column 2: no wire 'z'"):
                 read_table(path, "ab")
@@ -189,13 +187,13 @@ class Tables(unittest.TestCase):
             path = pathlib.Path(folder, "readings.txt")
             for encoding in ("utf-16-le", "utf-16-be"):
                 path.write_bytes("\ufeffa\tb\r\n0\t1\r\n".encode(encoding))
-                self.assertEqual([row.seen for row in read_table(path, "ab")], [{"a": 0, "b": 1}])
-        self.assertEqual([row.seen for row in read_table([["a", "b"], [0, None], [None, 1]], "ab")], [{"a": 0}, {"b": 1}])
+                self.assertEqual(read_table(path, "ab"), case.Board({"p1": Case({"a": 0, "b": 1})}))
+        self.assertEqual(read_table([["a", "b"], [0, None], [None, 1]], "ab"), case.Board({"p1": Case({"a": 0}), "p2": Case({"b": 1})}))
 
     def test_a_refusal_opens_none(self):
         with Service(C17, narrow=False, sessions=2) as service:
-            with self.assertRaises(Refused):
-                service.patterns([["pattern", "1"], ["a", 0], ["b", 1], ["c", 1]])
+            with service.session(), self.assertRaises(Refused):
+                service.patterns([["pattern", "1"], ["a", 0], ["b", 1]])
             self.assertEqual(list(service.patterns([["pattern", "1"], ["a", 0], ["b", 1]])), ["a", "b"])
 
 
@@ -327,14 +325,14 @@ class Board(unittest.TestCase):
             script.write_text("open one\nsee one 1=0\nopen two\nsee two 1=1\n")
             terminal = patterns.BoardShell(service, service.session("S"))
             terminal.use_rawinput = True
-            load = Session.load
+            seeing = Session.seeing
 
-            def load_first(session, *given):
-                if session.name == "two":
+            def see_first(session, seen):
+                if session.pattern == "two":
                     kill(service)
-                load(session, *given)
+                return seeing(session, seen)
 
-            with mock.patch.object(Session, "load", load_first), contextlib.redirect_stdout(io.StringIO()) as told:
+            with mock.patch.object(Session, "seeing", see_first), contextlib.redirect_stdout(io.StringIO()) as told:
                 terminal.onecmd(f"load {script}")
             self.assertIn("The next command starts it anew", told.getvalue())
             with contextlib.redirect_stdout(io.StringIO()) as told:
@@ -356,12 +354,11 @@ class Board(unittest.TestCase):
             told, status, said = self.told(["min"], "--patterns", table)
             self.assertEqual((told, status), ([], 1))
             self.assertIn("row 1, column 2: no wire '99'", said)
-            for count, told in ((600, ["600 patterns", "refused: full (error 8)"]), (1025, [])):
+            for count, why in ((600, "600 patterns, and at most 512 can be searched"), (1025, "1025 patterns, and at most 1024 sessions are open")):
                 table.write_text("1\n" + "0\n" * count)
                 texts, status, said = self.told(["min"], "--patterns", table)
-                self.assertEqual((status, len(texts)), (1, len(told)))
-                self.assertIn("at most 512 patterns can be searched", [*texts, said][-2 if told else -1])
-                self.assertTrue(all(text.startswith(start) for text, start in zip(texts, told)))
+                self.assertEqual((status, texts), (1, []))
+                self.assertIn(f"{table}: {why}", said)
 
 
 if __name__ == "__main__":

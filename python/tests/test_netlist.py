@@ -246,7 +246,7 @@ class OneWire(Converts):
     def test_both_are_read(self):
         service = self.served(self.given)
         session = service.session("S")
-        with self.assertRaisesRegex(ValueError, "a=1 and through=0 are readings of one wire"):
+        with self.assertRaisesRegex(ValueError, "a=1 and through=0 are of one wire"):
             session.see({"a": 1, "b": 1, "y[1]": 0, "through": 0})
         session.see({"a": 0, "b": 1, "y[1]": 0, "through": 0})
         self.assertEqual(session.seen, {"a": 0, "b": 1, "n": 0})
@@ -285,7 +285,7 @@ class OneWire(Converts):
         lines = "see a=1 b=1 through=1\nsee n=1 y[1]=0\nsee y[1]=0\nexpect y[1]\nmin\nsee y[2]=0\n"
         words = [sys.executable, "-m", "diag_client", "shell", path]
         done = subprocess.run(words, input=lines, capture_output=True, text=True, env={**os.environ, "PYTHONPATH": str(TOP / "python")})
-        why = "refused: n=1 and y[1]=0 are readings of one wire; nothing was taken"
+        why = "refused: n=1 and y[1]=0 are of one wire; nothing was taken"
         wanted = ["3 readings taken", why, "ok", "n should be 1, and was seen as 0", "min 1 n", "refused: no wire (error 9): y[2]; near it: y[1]"]
         self.assertEqual(done.stdout.splitlines(), wanted)
 

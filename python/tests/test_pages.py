@@ -107,12 +107,11 @@ class OneRow(unittest.TestCase):
             self.assertIn(said, self.run_in("diag", *words.split()).stderr, words)
 
     def test_client(self):
-        """`Service` takes the option, and the terminal the command."""
-        script = "from diag_client import Service, manual\nprint(manual.usages()['dance'])\nService('x.bench', narrow=False, search=True, frames=2, program='/bin/false')"
+        """It knows the numbers of the option, and the terminal the command."""
+        script = "from diag_client import manual\nprint(manual.limits()['wide'], manual.usages()['dance'])"
         env = {**os.environ, "PYTHONPATH": str(self.top / "python")}
         done = subprocess.run([sys.executable, "-B", "-c", script], capture_output=True, text=True, env=env)
-        self.assertIn("words=('w=b',), text='dances; b is 0 or 1; with --search'", done.stdout)
-        self.assertIn("`/bin/false serve x.bench --sessions 1024 --frames 2 --search` ended with status 1", done.stderr)
+        self.assertIn("(2, 3000) Usage(command='dance', words=('w=b',), text='dances; b is 0 or 1; with --search'", done.stdout)
 
     def test_completion(self):
         complete = functools.partial(Completion.complete, self, completion=self.top / "completions/diag.bash", folder=self.top)

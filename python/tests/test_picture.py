@@ -13,10 +13,11 @@ from unittest import mock
 
 from support import C17, EXAMPLES, TESTS, TOP, needs_program
 
-from diag_client import DiagError, Refused, Service, Verdict
+from diag_client import Case, DiagError, Refused, Service, Verdict
 from diag_client.devices import Part, read_device, read_netlist
-from diag_client.pictures import case, graphviz, picture
+from diag_client.pictures import graphviz, picture
 from diag_client.pictures.cone import Wiring, derive
+from diag_client.pictures.findings import Findings
 
 # The case of the README, up to its first question.
 SCRIPT = (EXAMPLES / "c17.script").read_text().splitlines()[:8]
@@ -66,14 +67,14 @@ class Texts(unittest.TestCase):
 
     def test_quotes(self):
         device = read_netlist('INPUT(a"\\n)\ny<&> = NOT(a"\\n)\n')
-        text = picture.dot_text(device, picture.Case({'a"\\n': 1}, {}, {}, 0), "<title>")
+        text = picture.dot_text(device, Findings(Case({'a"\\n': 1}), {}, 0), "<title>")
         self.assertIn(r'"wire a\"\\n" [label="a\"\\n = 1"', text)
         self.assertIn("&lt;title&gt;", text)
         self.render(text)
 
     def test_verdicts_and_held(self):
         device = read_netlist("INPUT(a)\nx = NOT(a)\ny = XOR(a, x)\n")
-        case = picture.Case({}, {"x": "ok"}, {"x": Verdict.NEVER, "y": Verdict.ALWAYS}, 1)
+        case = Findings(Case({}, {"x": "ok"}), {"x": Verdict.NEVER, "y": Verdict.ALWAYS}, 1)
         text = picture.dot_text(device, case, "t")
         self.assertIn(f'"part y" [label="y\\nXOR\\nalways" shape="hexagon" fillcolor="{picture.FILLS[Verdict.ALWAYS]}"]', text)
         self.assertIn(
@@ -85,17 +86,17 @@ class Texts(unittest.TestCase):
 
     def test_types_and_blocks(self):
         device = read_device(EXAMPLES / "ripple_64_blocks.dev")
-        text = picture.dot_text(device, picture.Case({}, {}, {}, 0), "t", most=1000)
+        text = picture.dot_text(device, Findings(Case(), {}, 0), "t", most=1000)
         self.assertEqual(text.count("subgraph"), 4 + 16 + 64)
         self.assertIn('label="1.2.3: FULL"', text)
-        pump = picture.dot_text(read_device(EXAMPLES / "pump.dev"), picture.Case({}, {}, {}, 0), "t")
+        pump = picture.dot_text(read_device(EXAMPLES / "pump.dev"), Findings(Case(), {}, 0), "t")
         self.assertIn('"part at_inlet" [label="at_inlet\\nSENSOR" shape="component"', pump)
         self.assertIn('"part at_inlet" -> "wire inlet" [dir="none" taillabel=" shown " labeldistance="1.6"]', pump)
         self.render(pump)
 
     def test_times(self):
         device = read_netlist("INPUT(d)\nq = DFF(d)\n")
-        text = picture.dot_text(device, picture.Case({"d@0001": 0, "q@0001": 1, "q@0002": 1}, {}, {}, 1, 2), "t")
+        text = picture.dot_text(device, Findings(Case({"d@0001": 0, "q@0001": 1, "q@0002": 1}), {}, 1, 2), "t")
         self.assertIn('[label="q\\n@1 = 1\\n@2 = 1"', text)
         self.assertIn('[label="d @1 = 0"', text)
 
@@ -103,13 +104,13 @@ class Texts(unittest.TestCase):
         device = read_netlist("INPUT(a)\na@0001 = NOT(a)\n")
         rows = (("a@0001", None, "a@0001 = 1"), ("a@0001", 2, "a @1 = 1"), ("a@0001@0002", 2, "a@0001 @2 = 1"))
         for seen, frames, label in rows:
-            self.assertIn(f'[label="{label}"', picture.dot_text(device, picture.Case({seen: 1}, {}, {}, 0, frames), "t"))
+            self.assertIn(f'[label="{label}"', picture.dot_text(device, Findings(Case({seen: 1}), {}, 0, frames), "t"))
 
     def test_expected(self):
         """What is not as expected is marked, and what is expected of the others is in grey."""
         device = read_netlist("INPUT(a)\nx = NOT(a)\ny = NOT(x)\nz = NOT(y)\n")
         expected = {"a": 1, "x": 0, "y": 1, "z": 0}
-        text = picture.dot_text(device, picture.Case({"a": 1, "z": 1}, {}, {}, 1, None, expected, "y"), "t")
+        text = picture.dot_text(device, Findings(Case({"a": 1, "z": 1}), {}, 1, None, expected, "y"), "t")
         grey = f'<font color="{picture.EXPECTED}">'
         self.assertIn(f'"part x" [label=<x<br/>NOT {grey}= 0</font>>', text)
         self.assertIn(f'"wire z" [label=<z = 1 {grey}expected 0</font>> shape="note"', text)
@@ -123,7 +124,7 @@ class Texts(unittest.TestCase):
         device = read_netlist("INPUT(d)\nq = DFF(d)\nz = BUFF(q)\ny = NOT(z)\n")
         expected = {row: found.bit for row, found in derive(device, {"d@0001": 1}, 2).items()}
         self.assertEqual(expected, {"d@0001": 1, "q@0002": 1, "z@0002": 1, "y@0002": 0})
-        text = picture.dot_text(device, picture.Case({"d@0001": 1, "y@0002": 1}, {}, {}, 1, 2, expected, "z@0002"), "t")
+        text = picture.dot_text(device, Findings(Case({"d@0001": 1, "y@0002": 1}), {}, 1, 2, expected, "z@0002"), "t")
         self.assertIn("= - 1</font>", text)
         self.assertIn("@2 = 1 <font", text)
         self.assertIn("measure next @2", text)
@@ -134,24 +135,24 @@ class Texts(unittest.TestCase):
         row = "".join(f"w{number:03} = BUFF(w{number - 1:03})\nside{number} = NOT(w{number:03})\n" for number in range(1, 301))
         device = read_netlist("INPUT(w000)\n" + row)
         verdicts = {"w200": Verdict.SOMETIMES}
-        text = picture.dot_text(device, picture.Case({"w220": 1}, {}, verdicts, 1, None, {"w220": 0}), "t")
+        text = picture.dot_text(device, Findings(Case({"w220": 1}), verdicts, 1, None, {"w220": 0}), "t")
         self.assertEqual(self.drawn(text), [f"w{number:03}" for number in range(200, 221)])
         self.assertIn("of 600 parts 21 are drawn: those between the suspects and the wrong readings", text)
         self.assertIn('label="w199\\n+2 parts"', text)
         self.render(text)
-        text = picture.dot_text(device, picture.Case({"w220": 1}, {}, verdicts, 1, None, {"w220": 0}), "t", most=5)
+        text = picture.dot_text(device, Findings(Case({"w220": 1}), verdicts, 1, None, {"w220": 0}), "t", most=5)
         self.assertEqual(len(self.drawn(text)), 5)
         self.assertIn("5 of 21 are drawn", text)
         self.assertIn("w200", self.drawn(text))
         self.assertIn("w220", self.drawn(text))
-        seen = picture.dot_text(device, picture.Case({"w300": 0}, {}, {}, 0), "t", most=2)
+        seen = picture.dot_text(device, Findings(Case({"w300": 0}), {}, 0), "t", most=2)
         self.assertEqual(sorted(self.drawn(seen)), ["side300", "w300"])
         self.assertIn("nearest to what was seen", seen)
 
     def test_most(self):
         for most in (0, -1):
             with self.assertRaises(ValueError):
-                picture.dot_text(read_netlist("INPUT(a)\n"), picture.Case({}, {}, {}, 0), "t", most)
+                picture.dot_text(read_netlist("INPUT(a)\n"), Findings(Case(), {}, 0), "t", most)
 
     def test_cone_without_directions(self):
         """Ports of a type have no direction, so the cone goes through them both ways."""
@@ -194,15 +195,9 @@ class TooLarge(unittest.TestCase):
         self.assertIn("from which the expected bits of the wrong readings follow", text)
 
     def test_says_what_is_wrong(self):
-        for line, why in (("see S 99=0", "no wire: see S 99=0"), ("hold S 1=ok", "no part"), ("see S 1=2", "bad value"), ("see S 1", "bad value")):
+        for line, why in (("see S 99=0", "line 2: no wire 99"), ("hold S 1=ok", "no part"), ("see S 1=2", "1=2: a reading is 0 or 1"), ("see S 1", "a reading")):
             with self.subTest(line), self.assertRaisesRegex(DiagError, why):
                 picture.picture_alone(C17, None, ["open S", line], None, 9, "")
-
-    def test_lines(self):
-        names = {"wire": frozenset("ab"), "part": frozenset("p")}
-        lines = [line.split() for line in ("open S", "see S a=0", "close S", "open S", "see S b=1", "see S a=1", "unsee S b", "hold S p=ok")]
-        self.assertEqual(case.noted(lines, names), ({"a": 1}, {"p": "ok"}))
-        self.assertEqual(case.noted([*lines, ["unhold", "S", "p"]], names), ({"a": 1}, {}))
 
 
 class Written(unittest.TestCase):
@@ -331,8 +326,8 @@ class Served(unittest.TestCase):
         script = pathlib.Path(self.enterContext(tempfile.TemporaryDirectory()), "typed")
         script.write_text("see 1=0\n")
         for words, why in (
-            ((C17, script), "the script opens no session: its lines are such as `open S` and `see S a=0`"),
-            ((C17, "-", "--session", "T"), "opens no session T"),
+            ((C17, script), "line 1: `see 1=0` is not understood: lines are such as `see S a=0`"),
+            ((C17, "-", "--session", "T"), "the script has no session T"),
             (("nowhere.bench",), ": nowhere.bench: no such file or directory\n"),
             (("nowhere.nnf",), ": nowhere.nnf: a graph (.nnf) is asked in the terminal, by `shell FILE --health N`\n"),
             ((C17, "nowhere.script"), "nowhere.script"),
@@ -348,28 +343,17 @@ class Served(unittest.TestCase):
             self.assertEqual(self.run_tool(*words).returncode, 2)
 
     def test_scripts(self):
+        """What a script says of the session that is drawn, as if it were alone."""
         with Service(C17) as served:
-            # All of the README's script: it ends with part 10 held, and then closes the session.
-            with case.replay(served, (EXAMPLES / "c17.script").read_text().splitlines()) as session:
-                self.assertEqual((session.name, dict(session.held), session.seen["22"]), ("S", {"10": "ok"}, 1))
-            lines = ["open S", "see S 1=0", "open T", "see T 1=1", "close T", "min S", "# see", ""]
-            with case.replay(served, lines) as session:
-                self.assertEqual((session.name, dict(session.seen)), ("T", {"1": 1}))
-            with case.replay(served, lines, "S") as session:
-                self.assertEqual(dict(session.seen), {"1": 0})
-            # Of more sessions than may be open, and of lines of others that are refused, one is drawn as if it were alone.
             many = [f"open case{number}" for number in range(20)] + ["open S", "see S 99=1", "see case7 1=1", "open S"]
-            with case.replay(served, many, "case7") as session:
-                self.assertEqual(dict(session.seen), {"1": 1})
-            for wrong in (["see S 1=0"], ["open S", "see S 99=0"], ["open S", "see S"], ["open S", "see T 1=0"], ["open"]):
-                with self.subTest(wrong), self.assertRaises((Refused, DiagError)):
-                    case.replay(served, wrong).close()
+            self.assertIn("1 = 1", picture.picture(served, many, "case7", picture.MOST))
+            for wrong in (["see S 99=0"], ["see S"], ["open"], ["open S", "dance S"]):
+                with self.subTest(wrong), self.assertRaises(DiagError):
+                    picture.picture(served, wrong, None, picture.MOST)
             # A session that the service has open itself stays as it is.
             with served.session("S") as own:
                 own.see({"1": 0})
-                for wrong in (["see S 2=0"], ["close S", "open S"], ["open S", "see S 2=0"]):
-                    with self.subTest(wrong), self.assertRaises((Refused, DiagError)):
-                        case.replay(served, wrong)
+                picture.picture(served, ["open S", "see S 2=0"], None, picture.MOST)
                 self.assertEqual(own.probe("1").if_one, None)
 
     def test_no_room_for_another_session(self):

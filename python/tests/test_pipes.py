@@ -160,7 +160,7 @@ class Interrupts(unittest.TestCase):
                 with self.assertRaises(Refused):
                     service.session("T")
                 other.see(a=1)
-            self.interrupted(lambda: session.service.do([pause_of(session), session._closing(), session._opening()]))
+            self.interrupted(lambda: session.service.do([pause_of(session), session._closing(), session.opening()]))
             session.close()
             session.close()
             self.assertFalse(session.is_open)

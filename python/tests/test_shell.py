@@ -17,8 +17,8 @@ from unittest import mock
 
 from support import C17, EXAMPLES, SOON, TOP, interrupt_at, kill, needs_program, replies, stand_in
 
-from diag_client import Proposal, Service, find_program, manual
-from diag_client.terminal import shell
+from diag_client import Case, Proposal, Service, find_program, manual
+from diag_client.terminal import patterns, shell
 
 
 @needs_program
@@ -98,8 +98,7 @@ class Lines(unittest.TestCase):
     def test_hints(self):
         for line, hint in (
             ("see 1:0", "write 1=0"), ("see 22=H", "write 22=1"), ("see 22=Low", "write 22=0"), ("SEE 1=0", "do you mean see?"),
-            ("hold 10=OK", "write 10=ok"), ("see 1 = 0", "without blanks"), ("see 1= 0 2=1", "nothing of this line was taken"),
-            ("see 1=0,2=0", "blanks between names"), ("probe 1,2", "no commas"), ("level", "--levels C"), ("leastnnf", "--least"),
+            ("hold 10=OK", "write 10=ok"), ("probe 1,2", "no commas"), ("level", "--levels C"), ("leastnnf", "--least"),
             ("exitt", "do you mean exit?"), ("best 10,16", "no commas"), ("see Net-(U1)=1", "none of ( )"), ("probe café", "ASCII"),
             ("see 1=\x1b[2J", "1=\ufffd[2J; write 1=\ufffd[2j"), (f"min {'1' * 2000}", f"{'1' * 60}...; it is min"), (f"{'x' * 1048577}", "at most 1048576 bytes"),
         ):
@@ -126,8 +125,9 @@ class Lines(unittest.TestCase):
             # Lines without the name of a session, and a netlist, are no script.
             for text in ("see 1=0\n", "10 = NAND(1, 3)\n"):
                 script.write_text(text)
-                self.assertIn("nothing is seen or held in this script", self.say(f"load {script}")[0])
+                self.assertIn("is not understood: lines are such as `see S a=0`", self.say(f"load {script}")[0])
             script.write_text("open S\n")
+            self.assertIn("nothing is seen or held in this script", self.say(f"load {script}")[0])
             # Only a saved case is written over.
             pathlib.Path(folder, "c17.bench").write_text("INPUT(a)\n")
             self.assertIn("not a saved case", self.say("save ~/c17.bench")[0])
@@ -202,7 +202,7 @@ class Lines(unittest.TestCase):
             with mock.patch("diag_client.pictures.graphviz.find_dot", return_value=None):
                 self.assertEqual(self.say(f"picture {folder}/out.svg"), [f"Graphviz's `dot` is not here (Debian: graphviz); wrote {folder}/out.dot alone"])
         self.assertEqual(len(self.say("picture")), 1)
-        with mock.patch("diag_client.pictures.picture.Case.of", side_effect=AssertionError):
+        with mock.patch("diag_client.pictures.picture.Findings.of", side_effect=AssertionError):
             # It is found before anything is asked.
             self.assertIn("there is no folder nowhere", self.say("picture nowhere/out.svg")[0])
 
@@ -325,10 +325,106 @@ class Lines(unittest.TestCase):
         self.session.see({"22": 1})
         self.assertEqual(complete("unsee "), ["22"])
         self.assertEqual(complete("best 2"), ["2", "23"])
-        self.assertEqual(complete("help un"), ["unhold ", "unsee "])
+        self.assertEqual(complete("help un"), ["undo ", "unhold ", "unsee "])
         with tempfile.TemporaryDirectory() as folder:
             pathlib.Path(folder, "case.script").touch()
             self.assertEqual(complete(f"load {folder}/c"), [f"{folder}/case.script"])
+
+
+@needs_program
+class AtABench(unittest.TestCase):
+    """What is typed by somebody who holds a probe in the other hand."""
+
+    ZERO = "1=0 2=0 3=0 6=0 7=0"
+
+    def setUp(self):
+        self.service = self.enterContext(Service(C17))
+        self.enterContext(mock.patch("sys.stdin", io.StringIO()))
+        self.shell = patterns.BoardShell(self.service, self.service.session("S"))
+        self.shell.use_rawinput, self.shell.prompt = True, "diag> "
+
+    def say(self, *lines):
+        with contextlib.redirect_stdout(io.StringIO()) as told:
+            for line in lines:
+                self.shell.onecmd(line)
+        return told.getvalue().splitlines()
+
+    def test_readings(self):
+        """They need no command, and no blank where it should be. What is no reading is none."""
+        for line, told, seen in (
+            ("1=0 2=0", "2 readings taken", {"1": 0, "2": 0}),
+            ("3 = 0", "ok", {"3": 0}),
+            ("see 6= 0,7 =0", "2 readings taken", {"6": 0, "7": 0}),
+            ("1=0;2=0", "2 readings taken", {"1": 0, "2": 0}),
+            ("1=0 2=X 3=- 6=z", "1 reading taken", {"1": 0}),
+        ):
+            with self.subTest(line):
+                self.assertEqual((self.say(line), dict(self.shell.session.seen)), ([told], seen))
+                self.shell.session.unsee(*self.shell.session.seen)
+        self.assertEqual(self.say("1=0 2=1", "1=x 2=0"), ["2 readings taken", "1 reading taken back, 1 reading taken (before: 2=1)"])
+        self.assertEqual(self.say("1=x"), ["nothing was read, and nothing was seen there before"])
+
+    def test_two_values(self):
+        why = "refused: 1=0 and 1=1 are of one wire; nothing was taken"
+        self.assertEqual(self.say("see 1=0 1=1", "1=0 2=0 1=1", "hold 10=ok 10=bad"), [why, why, why.replace("1=0 and 1=1", "10=ok and 10=bad").replace("wire", "part")])
+        self.assertEqual(self.shell.session.case, Case())
+
+    def test_a_reading_that_is_replaced(self):
+        self.assertEqual(self.say("1=0", "1=0", "1=1", "1=0 2=0"), ["ok", "ok", "ok (before: 1=0)", "2 readings taken (before: 1=1)"])
+
+    def test_undo(self):
+        self.say("1=0", "hold 10=ok", "1=1 2=1", "min")
+        self.assertEqual(self.say("undo"), ["seen: 1=0", "held: 10=ok"])
+        self.assertEqual(self.say("undo", "undo")[2:], ["seen: nothing", "held: nothing"])
+        self.assertEqual(self.say("undo"), ["nothing is there to be taken back"])
+        self.say("pattern one", "1=1", "hold 10=bad", "pattern two", "1=0")
+        self.assertEqual(self.say("undo", "undo")[-2:], ["seen: 1=1", "held: nothing"])
+        self.assertEqual([dict(session.held) for session in self.shell.sessions.values()], [{}, {}])
+
+    def test_patterns_go(self):
+        self.say("pattern one", "1=1", "pattern two", "1=0", "hold 10=ok")
+        self.assertEqual(self.say("drop three", "drop"), ["drop NAME: there is no pattern three", "drop NAME: which pattern?"])
+        self.assertEqual(self.say("drop two"), ["* one: 1 reading"])
+        self.assertEqual(self.shell.session.case, Case({"1": 1}, {"10": "ok"}))
+        self.assertEqual(self.say("drop one"), ["it is the only pattern: unsee takes its readings back"])
+
+    def test_names(self):
+        self.assertEqual(self.say("wires", "parts", "inputs"), ["1 2 3 6 7 10 11 16 19 22 23", "10 11 16 19 22 23", "1 2 3 6 7"])
+        self.assertEqual(self.say(self.ZERO, "expect")[1:], [
+            "22 should be 0", "23 should be 0", "10 should be 1", "11 should be 1", "16 should be 1", "19 should be 1",
+        ])
+
+    def test_words_of_python(self):
+        self.say(self.ZERO, "22=1", "23=0")
+        self.assertEqual(self.say("diagnoses"), ["diag 10", "diag 22", "end"])
+        self.assertEqual(self.say("enum 1", "minimum", "seen")[:3], ["end", "min 1 10", "seen: 1=0 2=0 3=0 6=0 7=0 22=1 23=0"])
+        self.assertEqual(self.say("restart", "min"), ["the program was started anew, and the case is as it was", "min 1 10"])
+
+    def test_nothing_is_wrong_yet(self):
+        told = "nothing is wrong yet: enter the inputs and what was read, such as see 1=0"
+        self.assertEqual(self.say("best"), [told])
+        self.assertEqual(self.say("pattern one", "1=0", "pattern two", "1=1", "best")[-1], told)
+
+    def test_pasted(self):
+        """Lines that a terminal hands over as one."""
+        self.assertEqual(self.say("\x1b[200~see 1=0\r2=0 3=0\rmin\r\x1b[201~"), ["ok", "2 readings taken", "min 0 (nothing is wrong)"])
+
+    def test_files(self):
+        """A name may have quotes around it, and a script a mark before it."""
+        with tempfile.TemporaryDirectory() as folder:
+            script = pathlib.Path(folder, "a b.script")
+            self.assertEqual(self.say("1=0", f"save '{script}'")[1:], [f"wrote {script}: 1 seen, 0 held"])
+            script.write_text("\ufeff" + script.read_text())
+            self.assertEqual(self.say("unsee 1", f'load "{script}"')[1:], ["1 reading taken"])
+            script.write_text("open S\nsee S 1=0\nsea S 2=0\n")
+            self.assertEqual(self.say(f"load {script}"), ["line 3: `sea S 2=0` is not understood: lines are such as `see S a=0`"])
+
+    def test_killed(self):
+        """What was typed is kept, and that is said."""
+        kill(self.service)
+        [told] = self.say("1=0 2=0")
+        self.assertTrue(told.endswith(". The next command starts it anew. What was seen and held is kept; a question has to be asked again"), told)
+        self.assertEqual(self.say("case")[1:], ["seen: 1=0 2=0", "held: nothing"])
 
 
 @unittest.skipUnless(shell.readline, "there is no readline")

@@ -21,10 +21,10 @@ from ..advice import Proposal
 from ..boards.joint import Joint, JointProposal
 from ..devices import other_names
 from ..errors import DiagError, Ended, Inconsistent, Refused
-from ..replies import Listing, Mode, Request, Verdict
+from ..replies import Listing, Request, Verdict
 from ..session import Session
-from .cases import MOST_LINES, MOST_TEXT, Bad, Case, Known, Pattern, read_readings, read_script, take_readings
 from .drawing import Json, Scene
+from .records import MOST_LINES, MOST_TEXT, Bad, Known, Record, read_readings, read_script, take_readings
 from .shared import ADVICE, CLICK, SEARCH, Dropped, Lost, SharedService
 
 # The program keeps this many sessions; some are left for questions that need one for a moment, or one for each pattern.
@@ -205,10 +205,10 @@ class Board:
         self.watch_id = secrets.token_urlsafe(12)
         self.used = 0
         self.version = 0
-        self.case = Case()
+        self.record = Record()
         self.view = View()
-        self._before: list[Case] = []
-        self._after: list[Case] = []
+        self._before: list[Record] = []
+        self._after: list[Record] = []
         # The versions that the last changes made, each with the tab that asked for it.
         self._changes: collections.deque[tuple[int, object]] = collections.deque(maxlen=MOST_UNDO)
         self._sessions: dict[str, Session] = {}
@@ -225,7 +225,7 @@ class Board:
     @property
     def is_empty(self) -> bool:
         """Whether nothing was entered yet."""
-        return self.case == Case() and not self._before
+        return self.record == Record() and not self._before
 
     @property
     def session_count(self) -> int:
@@ -253,19 +253,19 @@ class Board:
         shown, tab = act.get("version"), act.get("tab")
         if name in LOOKING and isinstance(shown, int) and any(made > shown and by != tab for made, by in self._changes):
             raise Bad("another tab has changed this board, and nothing was entered: here it is as it is now")
-        case, view, version = self.case, self.view, self.version
+        record, view, version = self.record, self.view, self.version
         self._acts[name](act)
-        if (self.case, self.view) != (case, view):
+        if (self.record, self.view) != (record, view):
             self._answers = self._shown = None
             self.version += 1
         try:
             return self._state()
         except Refused as error:
             # It is left as it was: the page never shows a case without its answers.
-            self.case, self.view, self.version, self._answers = case, view, version, None
+            self.record, self.view, self.version, self._answers = record, view, version, None
             raise Bad(f"the program refuses this: {error}") from error
         finally:
-            if self.case != case:
+            if self.record != record:
                 self._changes.append((self.version, tab))
 
     def _advised(self) -> Json:
@@ -309,78 +309,78 @@ class Board:
 
     # What a page may ask.
 
-    def _change(self, case: Case) -> None:
-        if case == self.case:
+    def _change(self, record: Record) -> None:
+        if record == self.record:
             return
-        if case.line_count > MOST_LINES:
+        if record.line_count > MOST_LINES:
             raise Bad(f"a board has at most {MOST_LINES} readings and tests of parts, and these would be more: begin a board for other patterns")
-        self._before = _last([*self._before, self.case])
+        self._before = _last([*self._before, self.record])
         self._after = []
-        self.case = case
+        self.record = record
 
     def _turn(self, act: Mapping[str, Any]) -> None:
         """A click: no reading, 0, 1, and none again."""
         wire = self._wire(act)
         following: dict[int | None, int | None] = {None: 0, 0: 1, 1: None}
-        self._change(self.case.with_readings({wire: following[self.case.pattern.seen.get(wire)]}))
+        self._change(self.record.with_readings({wire: following[self.record.seen.get(wire)]}))
 
     def _see(self, act: Mapping[str, Any]) -> None:
         bit = act.get("bit")
         wire, value = self.bench.known.reading(self._wire(act), "" if bit is None else _text(act, "bit"))
-        self._change(self.case.with_readings({wire: value}))
+        self._change(self.record.with_readings({wire: value}))
 
     def _readings(self, act: Mapping[str, Any]) -> None:
-        self._change(take_readings(self.case, read_readings(_text(act, "text"), self.bench.known)))
+        self._change(take_readings(self.record, read_readings(_text(act, "text"), self.bench.known)))
 
     def _hold(self, act: Mapping[str, Any]) -> None:
         part, mode = _text(act, "part"), act.get("mode")
-        held = {name: how for name, how in self.case.held.items() if name != part}
+        held = {name: how for name, how in self.record.board.held.items() if name != part}
         if mode is not None:
             held.update([self.bench.known.mode(part, _text(act, "mode"))])
-        self._change(dataclasses.replace(self.case, held=held))
+        self._change(self.record.with_held(held))
 
     def _pattern(self, act: Mapping[str, Any]) -> None:
         """A new pattern, another one of those that are there, or one less."""
-        names = [pattern.name for pattern in self.case.patterns]
+        names = self.record.names
         name = _text(act, "name") if act.get("name") is not None else ""
         if act.get("how") == "new":
-            self._change(self.case.with_pattern(name))
+            self._change(self.record.with_pattern(name))
         elif name not in names:
             raise Bad(f"there is no pattern {name}")
         elif act.get("how") == "remove":
-            self._change(self.case.without_pattern(name))
+            self._change(self.record.without_pattern(name))
         else:
             # To look at another one changes nothing that undo should bring back.
-            self.case = dataclasses.replace(self.case, now=names.index(name))
+            self.record = dataclasses.replace(self.record, now=names.index(name))
 
     def _reach(self, act: Mapping[str, Any]) -> None:
         wire = self.bench.wire_of(_text(act, "wire"))
         if wire not in self.bench.known.reachable:
             raise Bad(f"no wire {wire}")
-        changed = self.case.unreachable - {wire} if act.get("can") is True else self.case.unreachable | {wire}
-        self._change(dataclasses.replace(self.case, unreachable=changed))
+        changed = self.record.unreachable - {wire} if act.get("can") is True else self.record.unreachable | {wire}
+        self._change(dataclasses.replace(self.record, unreachable=changed))
 
     def _replaced(self, act: Mapping[str, Any]) -> None:
         text = _text(act, "text")
         if len(text) > MOST_TEXT:
             raise Bad(f"a note has at most {MOST_TEXT} characters")
-        self._change(dataclasses.replace(self.case, replaced=text))
+        self._change(dataclasses.replace(self.record, replaced=text))
 
     def _load(self, act: Mapping[str, Any]) -> None:
         self._change(read_script(_text(act, "text"), self.bench.known))
 
     def _clear(self, act: Mapping[str, Any]) -> None:
-        self._change(Case())
+        self._change(Record())
 
     def _undo(self, act: Mapping[str, Any]) -> None:
         if self._before:
-            self._after.append(self.case)
-            self.case = self._before.pop()
+            self._after.append(self.record)
+            self.record = self._before.pop()
 
     def _redo(self, act: Mapping[str, Any]) -> None:
         if self._after:
-            self._before.append(self.case)
-            self.case = self._after.pop()
+            self._before.append(self.record)
+            self.record = self._after.pop()
 
     def _show(self, act: Mapping[str, Any]) -> None:
         shown, with_levels = act.get("shown", self.view.shown), act.get("levels", self.view.with_levels)
@@ -396,7 +396,7 @@ class Board:
     def _answered(self) -> Answers:
         """The answers to the case. A program that has ended is started again, once."""
         if self._answers is None:
-            patterns = sum(bool(pattern.seen) for pattern in self.case.patterns)
+            patterns = sum(bool(case.seen) for case in self.record.board.patterns.values())
             self._answers = self._trying(self._ask, SEARCH if patterns > 1 else CLICK)
         return self._answers
 
@@ -409,34 +409,35 @@ class Board:
         with service.errand(rank, is_dropped):
             return ask()
 
-    def _synced(self) -> list[tuple[Pattern, Session]]:
-        """The patterns with their sessions, once each knows what the case says."""
-        names = {pattern.name for pattern in self.case.patterns}
-        for name in [name for name in self._sessions if name not in names]:
+    def _synced(self) -> dict[str, Session]:
+        """A session for each pattern, once each knows what the case says."""
+        patterns = self.record.board.patterns
+        for name in self._sessions.keys() - patterns.keys():
             self._sessions.pop(name).close()
         changes: list[Request] = []
-        for pattern in self.case.patterns:
-            if pattern.name not in self._sessions:
-                self._sessions[pattern.name] = self.bench.session(self)
-            changes += _changes(self._sessions[pattern.name], pattern.seen, self.case.held)
+        for name, case in patterns.items():
+            if name not in self._sessions:
+                self._sessions[name] = self.bench.session(self)
+                self._sessions[name].pattern = name
+            changes += self._sessions[name].becoming(case)
         self.bench.service.do(changes)
-        return [(pattern, self._sessions[pattern.name]) for pattern in self.case.patterns]
+        return {name: self._sessions[name] for name in patterns}
 
-    def _read(self) -> list[tuple[Pattern, Session]]:
-        """The patterns with readings, since one without them says nothing; the first if none has any."""
-        rows = self._synced()
-        return [row for row in rows if row[0].seen] or rows[:1]
+    def _read(self) -> list[Session]:
+        """The sessions of patterns with readings, since one without them says nothing; the first if none has any."""
+        sessions = self._synced()
+        return [session for name, session in sessions.items() if self.record.board.patterns[name].seen] or [next(iter(sessions.values()))]
 
-    def _asked(self, rows: list[tuple[Pattern, Session]]) -> Session | Joint:
+    def _asked(self, sessions: Sequence[Session]) -> Session | Joint:
         """What is asked: the one session, or all of them together."""
-        if len(rows) == 1:
-            return rows[0][1]
-        if self._joint is None or self._joint.sessions != tuple(session for _, session in rows):
-            self._joint = self.bench.service.together([session for _, session in rows], timeout=LONGEST)
+        if len(sessions) == 1:
+            return sessions[0]
+        if self._joint is None or self._joint.sessions != tuple(sessions):
+            self._joint = self.bench.service.together(sessions, timeout=LONGEST)
         return self._joint
 
     def _ask(self) -> Answers:
-        answers = Answers(expected=[self.bench.expected(pattern.seen) for pattern in self.case.patterns])
+        answers = Answers(expected=[self.bench.expected(case.seen) for case in self.record.board.patterns.values()])
         asked = self._asked(self._read())
         try:
             _explain(answers, asked, self.view)
@@ -452,7 +453,6 @@ class Board:
         if not answers.cost or (answers.complete and sum(cost == answers.cost for cost, _ in answers.candidates) < 2):
             return []
         patterns = self._read()
-        names = {session.name: pattern.name for pattern, session in patterns}
         asked = self._asked(patterns)
         ranked: Sequence[Proposal]
         try:
@@ -462,9 +462,9 @@ class Board:
                 ranked = asked.rank_probes(self._splitting(asked, answers), AT_HAND)
         except TimeoutError:
             return []
-        rows = [row for row in ranked if row.reduction > 0 and self.bench.wire_of(row.wire) not in self.case.unreachable]
+        rows = [row for row in ranked if row.reduction > 0 and self.bench.wire_of(row.wire) not in self.record.unreachable]
         return [
-            {"pattern": names[row.pattern] if isinstance(row, JointProposal) else patterns[0][0].name, "wire": row.wire,
+            {"pattern": row.pattern if isinstance(row, JointProposal) else patterns[0].pattern, "wire": row.wire,
              "zero": row.with_zero, "one": row.with_one, "of": row.at_hand, "complete": row.complete}
             for row in rows[:PROPOSALS]
         ]  # fmt: skip
@@ -479,39 +479,39 @@ class Board:
             return 0 if scene.drivers.get(wire) in suspects else 1 if suspects.intersection(scene.readers.get(wire, ())) else 2
 
         found = [row.wire for row in session.probes() if row.if_zero == row.if_one == answers.cost]
-        return sorted((wire for wire in found if self.bench.wire_of(wire) not in self.case.unreachable), key=distance)[:MOST_RANKED]
+        return sorted((wire for wire in found if self.bench.wire_of(wire) not in self.record.unreachable), key=distance)[:MOST_RANKED]
 
     def _state(self) -> Json:
         answers = self._answered()
-        case, bench = self.case, self.bench
+        record, bench = self.record, self.bench
         shares = collections.Counter(part for cost, parts in answers.candidates if cost == answers.cost for part in parts)
         return {
-            "version": self.version, "title": bench.title, "restarts": bench.service.restarts, "now": case.now,
+            "version": self.version, "title": bench.title, "restarts": bench.service.restarts, "now": record.now,
             "patterns": [
-                {"name": pattern.name, "seen": list(pattern.seen.items()), "expected": list(expected.items()),
-                 "against": _against(pattern.seen, expected)}
-                for pattern, expected in zip(case.patterns, answers.expected)
+                {"name": name, "seen": list(case.seen.items()), "expected": list(expected.items()), "against": _against(case.seen, expected)}
+                for (name, case), expected in zip(record.board.patterns.items(), answers.expected)
             ],
-            "held": list(case.held.items()), "unreachable": sorted(case.unreachable), "replaced": case.replaced,
+            "held": list(record.board.held.items()), "unreachable": sorted(record.unreachable), "replaced": record.replaced,
             "cost": answers.cost, "late": answers.is_late, "complete": answers.complete, "shares": list(shares.items()),
             "candidates": [{"cost": cost, "parts": parts} for cost, parts in answers.candidates],
             "blame": [(part, str(verdict)) for part, verdict in answers.blame.items() if verdict is not Verdict.NEVER],
-            "advice": answers.advice, "log": case.script(bench.title), "undo": len(self._before), "redo": len(self._after),
+            "advice": answers.advice, "log": record.script(bench.title), "undo": len(self._before), "redo": len(self._after),
             "shown": self.view.shown, "levels": self.view.with_levels,
         }  # fmt: skip
 
 
-def _last(cases: Sequence[Case]) -> list[Case]:
+def _last(records: Sequence[Record]) -> list[Record]:
     """The last of these, as many as are kept. What two of them share counts once."""
     met: dict[int, int] = {}
     count = 0
-    for case in reversed(cases[-MOST_UNDO:]):
-        contents = (case.held, case.unreachable, case.replaced, *(pattern.seen for pattern in case.patterns))
+    for record in reversed(records[-MOST_UNDO:]):
+        known = [known for case in record.board.patterns.values() for known in (case.seen, case.held)]
+        contents = (record.unreachable, record.replaced, *known)
         met |= {id(content): len(content) for content in contents}
         if sum(met.values()) > MOST_KEPT:
             break
         count += 1
-    return list(cases[len(cases) - count :])
+    return list(records[len(records) - count :])
 
 
 def _against(seen: Mapping[str, int], expected: Mapping[str, int]) -> list[str]:
@@ -526,16 +526,6 @@ def _text(act: Mapping[str, Any], name: str) -> str:
     if not isinstance(value, str):
         raise Bad(f"the request lacks {name}: load the page again")
     return value.encode("utf-8", "replace").decode()
-
-
-def _changes(session: Session, seen: Mapping[str, int], held: Mapping[str, Mode]) -> list[Request]:
-    """What makes a session know just this."""
-    return [
-        *(session.request("unsee", wire) for wire in session.seen if wire not in seen),
-        *(session.request("see", f"{wire}={bit}") for wire, bit in seen.items() if session.seen.get(wire) != bit),
-        *(session.request("unhold", part) for part in session.held if part not in held),
-        *(session.request("hold", f"{part}={mode}") for part, mode in held.items() if session.held.get(part) != mode),
-    ]
 
 
 def _explain(answers: Answers, asked: Session | Joint, view: View) -> None:

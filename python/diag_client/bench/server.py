@@ -28,7 +28,7 @@ from typing import Any
 from ..errors import DiagError
 from ..progress import options_in
 from .boards import Bench, Board, Gone
-from .cases import Bad
+from .records import Bad
 
 MOST_BODY = 1024 * 1024
 # So many seconds a request may take to come, and its answer to go.

@@ -228,7 +228,7 @@ class Copies:
         if self._parts is None:
             rows = self.sessions[0].ask("blame")
             if rows[0].endswith(" inconsistent"):
-                raise Inconsistent(self.sessions[0].name)
+                raise Inconsistent(self.sessions[0].pattern)
             self._parts = Parts([row.split(" ")[2] for row in rows[:-1]])
         return self._parts
 

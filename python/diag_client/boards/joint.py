@@ -7,6 +7,7 @@ from collections.abc import Callable, Iterable, Iterator
 from typing import TYPE_CHECKING
 
 from ..advice import AT_HAND, Proposal
+from ..errors import Changed
 from ..replies import Blame, Diagnosis, Minimum, Verdict
 from .holding import Copies, JointProgress
 from .joint_search import Search
@@ -58,6 +59,9 @@ class Joint:
             raise ValueError("the sessions are not all of one service")
         if len(set(self.sessions)) < len(self.sessions):
             raise ValueError("a session is given twice")
+        most = self.service.most_sessions
+        if most is not None and len(self.sessions) > most // 2:
+            raise ValueError(f"{len(self.sessions)} patterns, and at most {most // 2} can be searched together, since each is copied")
         self._progress = progress
         self._timeout = timeout
         self._case: tuple[object, ...] = ()
@@ -81,13 +85,13 @@ class Joint:
     def diagnoses(self, limit: int | None = None) -> Iterator[Diagnosis]:
         """The sets of that cost, in name order, at most `limit` of them. They are looked for as they are taken.
 
-        What is taken after a session was changed raises RuntimeError.
+        What is taken after a session was changed raises `Changed`.
         """
         self._look_for(1)
         place, case = 0, self._case
         while limit is None or place < limit:
             if self._cases() != case or self._case != case:
-                raise RuntimeError("a session was changed while the diagnoses were taken")
+                raise Changed("a session")
             if place == len(self._found):
                 self._look_for(place + PAGE if limit is None else min(limit, place + PAGE))
                 if place == len(self._found):
@@ -132,7 +136,7 @@ class Joint:
                         row[1] += bits[1]
         complete = len(self._found) <= limit
         rows = [
-            JointProposal(wire, len(at_hand), zero, one, complete, session.name)
+            JointProposal(wire, len(at_hand), zero, one, complete, session.pattern)
             for session, count in zip(self.sessions, counts, strict=True) for wire, (zero, one) in count.items()
         ]
         # Of rows that are alike the first session and wire come first, since sorting keeps their order.

@@ -151,7 +151,7 @@ class Search:
             waiting = dearer
             for region in self._regions:
                 waiting += self._parted(region, cost)
-        raise Inconsistent(", ".join(session.name for session in self._copies.sessions))
+        raise Inconsistent(", ".join(session.pattern for session in self._copies.sessions))
 
     def has(self, bad: int, ok: int) -> bool:
         """Whether one of the sets has these parts and not those. A set was found before."""
@@ -195,7 +195,7 @@ class Search:
         root = Region(bad, ok, parts.all, [0] * len(sessions))
         for place, least in enumerate(alone):
             if least is None:
-                raise Inconsistent(sessions[place].name)
+                raise Inconsistent(sessions[place].pattern)
             root.bounds[place] = least.cost
             self._enough[place].note(least)
             if least.cost == 1 and least.is_all and not any(held[place]):

@@ -7,15 +7,16 @@ import html
 import os
 from collections.abc import Iterable
 
+from ..case import Case
 from ..devices import FLIP_FLOP, GATES, Device, Part, Reduction, read_device
 from ..errors import DiagError
 from ..replies import Verdict
 from ..service import Service
-from .case import Case, case_of_script, lines_of, noted
 from .cone import Wiring, derive
+from .findings import Findings
 
 # What others look for here.
-__all__ = ["MOST", "Case", "dot_text", "picture", "picture_alone"]
+__all__ = ["MOST", "Findings", "dot_text", "picture", "picture_alone"]
 
 # So many parts are drawn if nothing else is said.
 MOST = 60
@@ -78,21 +79,21 @@ def label(lines: Iterable[tuple[str, str]]) -> str:
 class Drawing:
     """The text of the graph, as it grows."""
 
-    def __init__(self, device: Device, case: Case, most: int) -> None:
+    def __init__(self, device: Device, found: Findings, most: int) -> None:
         if most < 1:
             raise ValueError(f"at least one part is drawn, and not {most}")
         self.device = device
-        self.case = case
+        self.found = found
         self.wiring = Wiring(device)
         self.blocks_in: dict[str, list[str]] = collections.defaultdict(list)
         for path in device.blocks:
             self.blocks_in[path.rpartition(".")[0]].append(path)
         self.nodes: dict[str, list[str]] = collections.defaultdict(list)
         self.edges: list[str] = []
-        self.readings = case.by_wire(case.seen)
-        self.expected = case.by_wire(case.expected)
-        self.wrong = {case.wire_of(name)[0] for name in case.wrong()}
-        self.following = case.wire_of(case.following)[0] if case.following else None
+        self.readings = found.by_wire(found.case.seen)
+        self.expected = found.by_wire(found.expected)
+        self.wrong = {found.wire_of(name)[0] for name in found.wrong()}
+        self.following = found.wire_of(found.following)[0] if found.following else None
         self.drawn, self.choice = self._chosen(most)
 
     def text(self, title: str) -> str:
@@ -105,7 +106,7 @@ class Drawing:
             if wire in touched or not self.wiring.ends[wire] and len(self.drawn) == len(self.device.parts):
                 self._draw_wire(wire)
         style = attributes(rankdir="LR", labelloc="t", fontname="Helvetica", fontsize=12, ranksep=0.4, nodesep=0.25)
-        told = [title, self.case.summary()] + ([self.choice] if self.choice else [])
+        told = [title, self.found.summary()] + ([self.choice] if self.choice else [])
         lines = ["digraph device {", f"  graph {style}", f"  label={self._heading(told, parts)}"]
         lines += ["  node " + attributes(fontname="Helvetica", fontsize=11, style="filled", fillcolor="white", color=LINE)]
         lines += ["  edge " + attributes(fontname="Helvetica", fontsize=9, color=LINE, arrowsize=0.6)]
@@ -119,13 +120,13 @@ class Drawing:
         if count <= most:
             return frozenset(self.wiring.parts), ""
         wrong = sorted(self.wrong)
-        suspects = self.case.suspects()
+        suspects = self.found.suspects()
         if suspects:
             found = self.wiring.cone(suspects, wrong or self.readings)
             which = f"between the suspects and {'the wrong readings' if wrong else 'what was seen'}"
         elif wrong:
-            known = derive(self.device, self.case.seen, self.case.frames)
-            basis = {name for reading in self.case.wrong() if reading in known for name in known[reading].by}
+            known = derive(self.device, self.found.case.seen, self.found.frames)
+            basis = {name for reading in self.found.wrong() if reading in known for name in known[reading].by}
             drivers = [name for wire in wrong for name in self.wiring.before(wire)]
             found = [name for name in self.wiring.nearest(drivers) if name in basis or name in drivers]
             which = "from which the expected bits of the wrong readings follow"
@@ -148,8 +149,8 @@ class Drawing:
         return not is_marked and len(drivers) == 1 and bool(readers) and is_whole
 
     def _draw_part(self, part: Part) -> None:
-        verdict = self.case.verdicts.get(part.name, Verdict.NEVER)
-        held = self.case.held.get(part.name)
+        verdict = self.found.verdicts.get(part.name, Verdict.NEVER)
+        held = self.found.case.held.get(part.name)
         # The wire has no node of its own then that could say it.
         has_bits = part.is_directed and part.wires[-1] == part.name and self._is_edge(part.name)
         lines = [(part.name, ""), (part.kind, self._expectation(part.name) if has_bits else "")]
@@ -197,8 +198,8 @@ class Drawing:
         bits = self.expected.get(wire)
         if not bits:
             return ""
-        times = range(1, (self.case.frames or 1) + 1)
-        return "= " + " ".join(str(bits.get("" if self.case.frames is None else str(time), "-")) for time in times)
+        times = range(1, (self.found.frames or 1) + 1)
+        return "= " + " ".join(str(bits.get("" if self.found.frames is None else str(time), "-")) for time in times)
 
     def _wire_lines(self, wire: str, others: int) -> list[tuple[str, str]]:
         """What a wire's node says: its bits as they were seen, and in grey what they should be if they are not seen so."""
@@ -209,8 +210,8 @@ class Drawing:
             told = {time: f"expected {expected[time]}" if expected.get(time, bit) != bit else "" for time, bit in bits.items()}
             rows = [(f"@{time} = {bit}" if time else f"= {bit}", told[time]) for time, bit in bits.items()]
             lines = [(f"{wire} {rows[0][0]}", rows[0][1])] if len(rows) == 1 else [(wire, ""), *rows]
-        if wire == self.following and self.case.following is not None:
-            time = self.case.wire_of(self.case.following)[1]
+        if wire == self.following and self.found.following is not None:
+            time = self.found.wire_of(self.found.following)[1]
             lines.append((f"measure next{f' @{time}' if time else ''}", ""))
         return lines + ([(f"+{others} part{'s' * (others > 1)}", "")] if others else [])
 
@@ -247,11 +248,11 @@ class Drawing:
             ("faulty in all diagnoses", FILLS[Verdict.ALWAYS], LINE), ("in some", FILLS[Verdict.SOMETIMES], LINE),
             ("in none", FILLS[Verdict.NEVER], LINE),
         ]
-        cells = [] if self.case.refusal else cells
+        cells = [] if self.found.refusal else cells
         cells += [("seen as 0", BITS[0], LINE), ("as 1", BITS[1], LINE)]
         if self.wrong:
             cells += [("not as expected", "white", WRONG)]
-        if self.case.held:
+        if self.found.case.held:
             cells += [("held ok", "white", HELD["ok"]), ("held bad", "white", HELD["bad"])]
         row = "".join(f'<td bgcolor="{fill}" color="{edge}">{text}</td>' for text, fill, edge in cells)
         if self.expected:
@@ -266,27 +267,27 @@ class Drawing:
         )
 
 
-def dot_text(device: Device, case: Case, title: str, most: int = MOST) -> str:
-    """The device and the case as a graph in Graphviz's language.
+def dot_text(device: Device, found: Findings, title: str, most: int = MOST) -> str:
+    """The device and what was found as a graph in Graphviz's language.
 
     If there are more parts than the most, only those are drawn that lie between the suspects and the readings that are not as expected,
     and the title says so.
 
     >>> from diag_client.devices import read_netlist
-    >>> print(dot_text(read_netlist("INPUT(a)\\ny = NOT(a)\\n"), Case({"a": 0}, {}, {}, 0), "one gate"))
+    >>> print(dot_text(read_netlist("INPUT(a)\\ny = NOT(a)\\n"), Findings(Case({"a": 0}), {}, 0), "one gate"))
     digraph device {
     ...
       "wire a" [label="a = 0" shape="note" fillcolor="#cfe2f3" fontsize="10"];
     ...
     """
-    return Drawing(device, case, most).text(title)
+    return Drawing(device, found, most).text(title)
 
 
 def picture(service: Service, script: Iterable[str] | None, name: str | None, most: int) -> str:
     """The text of the picture of what is served, in the case at the end of a script."""
     check_drawable(service)
-    case = case_of_script(service, script, name)
-    return dot_text(read_device(service.file), case, service.title, most)
+    with service.session_from(Case() if script is None else Case.from_script(script, name)) as session:
+        return dot_text(read_device(service.file), Findings.of(session), service.title, most)
 
 
 def check_drawable(service: Service) -> None:
@@ -304,7 +305,14 @@ def picture_alone(
     names = {
         "wire": frozenset(wire + time for wire in device.wires for time in times), "part": frozenset(part.name for part in device.parts),
     }
-    seen, held = noted([] if script is None else lines_of(script, name)[1], names)
-    expected = {wire: row.bit for wire, row in derive(device, seen, frames).items()}
-    case = Case(seen, held, {}, None, frames, expected, None, refusal)
-    return dot_text(device, case, f"{os.path.basename(file)}: {len(device.parts)} parts, {len(device.wires)} wires", most)
+
+    def known(command: str, name: str) -> str:
+        noun = "wire" if command.endswith("see") else "part"
+        if name not in names[noun]:
+            raise ValueError(f"no {noun} {name}")
+        return name
+
+    case = Case() if script is None else Case.from_script(script, name, known)
+    expected = {wire: row.bit for wire, row in derive(device, case.seen, frames).items()}
+    title = f"{os.path.basename(file)}: {len(device.parts)} parts, {len(device.wires)} wires"
+    return dot_text(device, Findings(case, {}, None, frames, expected, None, refusal), title, most)

@@ -9,13 +9,15 @@ from typing import Any
 
 from ..boards.holding import JointProgress
 from ..boards.joint import Joint
-from ..errors import DiagError, Inconsistent, Refused
+from ..case import Board
+from ..errors import DiagError, Inconsistent, Refused, shown
 from ..replies import Probe
 from ..service import Service
 from ..session import Session
-from .shell import BEST, MORE, REFUSED, Asked, Shell, _path, in_words
+from .shell import LISTED, MORE, REFUSED, Asked, Shell, _read_script, in_words
 
 MORE_PATTERNS = {
+    "drop": ("drop NAME", "takes a pattern away, with its readings"),
     "pattern": ("pattern NAME", "begins a test pattern of the same board, or goes back to one; see belongs to it, hold to the board"),
     "patterns": ("patterns", "the patterns: the present one has a star"),
     "this": ("this COMMAND ..", "min, next, list, probe, probes, blame or best for the present pattern alone; without `this` they are for all together, and probes is slower"),
@@ -23,9 +25,6 @@ MORE_PATTERNS = {
 # What is asked for all patterns together once there are two, and what has an answer for one pattern alone.
 TOGETHER = ("min", "next", "list", "probe", "probes", "blame", "best")
 ALONE = ("after", "level", "levels", "dnnf", "leastnnf", "expect", "case", "picture")
-# So many diagnoses are listed if no number is given.
-LISTED = 100
-
 
 class BoardShell(Shell):
     """The terminal, with patterns. With one pattern alone it is the plain terminal."""
@@ -53,10 +52,10 @@ class BoardShell(Shell):
         self._joint = None
         self._told_since = (0, 0)
 
-    def onecmd(self, line: str) -> bool:
+    def carry_out_line(self, line: str) -> bool:
         """Carries out a line, as one of `all` or of `this` if there are several patterns and it is for all of them or for the present one."""
         try:
-            return super().onecmd(f"{self._whose(line.split(None, 1))} {line.strip()}".lstrip())
+            return super().carry_out_line(f"{self._whose(line.split(None, 1))} {line.strip()}".lstrip())
         finally:
             self._heading = ""
 
@@ -105,6 +104,26 @@ class BoardShell(Shell):
         print(f"pattern {name}: {_count_of(self.session.seen, 'reading')}")
         return False
 
+    def do_drop(self, rest: str) -> bool:
+        """One pattern less."""
+        name = rest.strip()
+        if name not in self.sessions:
+            raise ValueError(f"drop NAME: there is no pattern {shown(name)}" if name else "drop NAME: which pattern?")
+        if len(self.sessions) == 1:
+            raise ValueError("it is the only pattern: unsee takes its readings back")
+        self._revive()
+        self._hold_in_all()
+        present = self.session
+        self.take({other: session for other, session in self.sessions.items() if other != name})
+        self.session = present if present.is_open else self.session
+        return self.do_patterns("")
+
+    def do_undo(self, rest: str) -> bool:
+        """The case as it was, of the pattern that was changed last."""
+        super().do_undo(rest)
+        self._hold_in_all()
+        return False
+
     def do_patterns(self, _: str) -> bool:
         """All patterns."""
         self.service.catch_up()
@@ -118,7 +137,7 @@ class BoardShell(Shell):
         if command not in TOGETHER + ALONE:
             raise ValueError(f"this COMMAND: one of {', '.join(TOGETHER)}")
         if len(self.sessions) > 1:
-            self._heading = f"pattern {self.session.name} alone:"
+            self._heading = f"pattern {self.session.pattern} alone:"
         ask = getattr(self, f"do_{command}", None)
         return bool(ask(rest[len(command):])) if ask else self._ask_one(rest)
 
@@ -126,38 +145,23 @@ class BoardShell(Shell):
         if len(self.sessions) == 1:
             return super()._saved()
         self._hold_in_all()
-        text = "".join(f"open {name}\n{session.script()}" for name, session in self.sessions.items())
+        text = Board({name: session.case for name, session in self.sessions.items()}).script()
         return text, f"{len(self.sessions)} patterns, {_count_of(self.session.held, 'part')} held"
 
     def do_load(self, rest: str) -> bool:
         """A script that was saved: one pattern, or many."""
-        text = _path(rest, "load FILE: which script?").read_text(encoding="utf-8", errors="surrogateescape")
-        names = list(dict.fromkeys(row[1] for row in map(str.split, text.split("\n")) if len(row) == 2 and row[0] == "open"))
-        if len(names) < 2:
+        board = Board.from_script(_read_script(rest))
+        if len(board.patterns) < 2:
             return super().do_load(rest)
         if self.session.seen or self.session.held or len(self.sessions) > 1:
-            raise ValueError(f"there are {len(names)} patterns in this script: load it before anything is seen or held")
+            raise ValueError(f"there are {len(board.patterns)} patterns in this script: load it before anything is seen or held")
         self._revive()
-        opened: dict[str, Session] = {}
-        try:
-            for name in names:
-                opened[name] = self.session if name == self.session.name else self.service.session(name)
-                opened[name].load(text, name)
-        except BaseException:
-            for session in opened.values():
-                if session is not self.session:
-                    session.abandon()
-            # Nothing was seen or held before.
-            self.session.unsee(*self.session.seen)
-            self.session.unhold(*self.session.held)
-            raise
-        self.take(opened)
+        self.take(self.service.patterns(board))
         # What is held is held for the board.
-        held = {part: mode for session in opened.values() for part, mode in session.held.items()}
-        self.session.hold(held)
+        self.session.hold(board.held)
         self._hold_in_all()
-        readings = [wire for session in opened.values() for wire in session.seen]
-        print(f"{len(names)} patterns, {_count_of(readings, 'reading')}, {_count_of(held, 'part')} held")
+        readings = [wire for case in board.patterns.values() for wire in case.seen]
+        print(f"{len(board.patterns)} patterns, {_count_of(readings, 'reading')}, {_count_of(board.held, 'part')} held")
         return False
 
     def complete_pattern(self, text: str, *_: Any) -> list[str]:
@@ -267,7 +271,7 @@ class BoardShell(Shell):
         """The least costs for all patterns if a wire was seen as 0 in the present one too, and if it was seen as 1."""
         costs = ["-" if cost is None else self._cost_with(alone.wire, bit) for bit, cost in enumerate((alone.if_zero, alone.if_one))]
         if costs == ["-", "-"]:
-            raise Inconsistent(self.session.name)
+            raise Inconsistent(self.session.pattern)
         self.say(f"probe {alone.wire} {costs[0]} {costs[1]}")
 
     def _cost_with(self, wire: str, bit: int) -> str:
@@ -287,8 +291,8 @@ class BoardShell(Shell):
     def _best(self, words: list[str]) -> None:
         # An unknown name is refused.
         among = {row.wire for row in self.session.probe_each(words)}
-        rows = [row for row in self._together().rank_probes() if row.reduction > 0 and (not among or row.wire in among)]
-        self.say("\n".join(map(str, rows[:BEST])) or "no wire splits the diagnoses at hand")
+        rows = [row for row in self._together().rank_probes() if not among or row.wire in among]
+        self.say(self._advice(rows, lambda: self._together().minimum().cost))
 
 
 def _count_of(found: Collection[str], noun: str) -> str:
@@ -310,7 +314,12 @@ def begin(service: Service, session: Session, table: str | None = None) -> Board
             shell.take(service.patterns(table))
         except Refused as refused:
             raise DiagError(f"{table}: {shell.why(refused)}") from None
-        print(f"{_count_of(shell.sessions, 'pattern')} of {table}; the present one is {shell.session.name}")
+        try:
+            # Too many to be searched are refused before anything is typed.
+            shell._together()
+        except ValueError as error:
+            raise DiagError(f"{table}: {error}") from None
+        print(f"{_count_of(shell.sessions, 'pattern')} of {table}; the present one is {shell.session.pattern}")
     return shell
 
 

@@ -9,19 +9,24 @@ import difflib
 import io
 import os
 import pathlib
+import re
 import sys
+import textwrap
 from collections.abc import Callable, Iterable, Iterator, Sequence
 from typing import Any
 
 from .. import manual
+from ..advice import Proposal
+from ..case import CHANGES, NAME_RULE, Board, Case
 from ..devices import read_device
 from ..errors import DiagError, Ended, Inconsistent, Refused, sentence, shown
 from ..files import write_whole
 from ..pictures import graphviz, picture
 from ..progress import Progress
+from ..readings import UNREAD, at_odds, words_of
 from ..replies import AnyLines, Lines
 from ..service import LIMITS, Service
-from ..session import CHANGES, NAME_RULE, Session, at_odds, case_lines
+from ..session import Session
 
 try:
     import readline
@@ -32,11 +37,28 @@ MORE = {
     "best": ("best [WIRE ..]", "the wires that split the diagnoses at hand best, of these or of all that are not seen; advice, not proved"),
     "case": ("case", "what was seen and held"),
     "expect": ("expect [WIRE ..]", "the bits that these wires, or all, have if all parts are ok, as far as the inputs seen fix them"),
+    "inputs": ("inputs", "the names of the inputs"),
     "load": ("load FILE", "adds the case that a script holds, such as one that was saved"),
+    "parts": ("parts", "the names of the parts"),
     "picture": ("picture OUT", "draws the device and the case into out.svg, out.pdf, out.png or out.dot"),
     "quit": ("quit", "ends; so do exit and the end of the input"),
+    "restart": ("restart", "starts the program anew, with the same case"),
     "save": ("save FILE", "writes the case as a script"),
+    "undo": ("undo", "takes the last line back that changed the case"),
+    "wires": ("wires", "the names of the wires"),
 }
+# Commands by their names in Python and in other programs.
+ALIASES = {
+    "diagnoses": "list", "diag": "list", "enum": "list", "minimum": "min", "best_probe": "best", "expected": "expect", "seen": "case",
+    "held": "case",
+}
+# So many diagnoses are listed for an alias that says no number.
+LISTED = 100
+# How often a change can be taken back.
+MOST_UNDO = 200
+# What some terminals put around lines that are pasted.
+PASTED = re.compile(r"\x1b\[20[01]~")
+WIDTH = 100
 HISTORY_LINES = 1000
 # So many of the best wires are printed.
 BEST = 5
@@ -74,6 +96,8 @@ class Asked:
 
     rows: list[list[str]]
     is_counted: bool = False
+    # Readings that it replaces by other bits.
+    before: list[str] = dataclasses.field(default_factory=list)
     requests: list[Lines | AnyLines] = dataclasses.field(default_factory=list)
     told: int = 0
 
@@ -97,9 +121,23 @@ class Shell(cmd.Cmd):
         self.intro = f"{service.title}. Type ? for help." if self.prompt else None
         # Whether an interrupt left the program at work on what nobody waits for.
         self.was_interrupted = False
+        # The sessions that were changed, each with its case before.
+        self.changed: collections.deque[tuple[Session, Case]] = collections.deque(maxlen=MOST_UNDO)
 
     def onecmd(self, line: str) -> bool:
-        """Carries out a line, and says in words what is refused."""
+        """Carries out a line, and says in words what is refused. Lines that were pasted may come as one."""
+        return any(self.carry_out_line(self._plain(part)) for part in PASTED.sub("", line).split("\r"))
+
+    def _plain(self, line: str) -> str:
+        """A line with the terminal's own word for its command."""
+        command, *rest = line.split(None, 1)[:2] or [""]
+        meant = ALIASES.get(command, command)
+        if meant == "list" != command and not rest:
+            rest = [str(LISTED)]
+        return line if meant == command else " ".join([meant, *rest])
+
+    def carry_out_line(self, line: str) -> bool:
+        """The same for one line."""
         try:
             return bool(super().onecmd(line))
         except Refused as refused:
@@ -115,7 +153,8 @@ class Shell(cmd.Cmd):
         except Ended as ended:
             if not self.use_rawinput:
                 raise
-            self.refuse(f"{ended}. The next command starts it anew, and the case stays")
+            ended.hint = ""
+            self.refuse(f"{ended}. The next command starts it anew. What was seen and held is kept; a question has to be asked again")
         except (DiagError, OSError, ValueError, TypeError) as error:
             self.refuse(sentence(error))
         return False
@@ -154,7 +193,7 @@ class Shell(cmd.Cmd):
         if line == "EOF":
             return self.do_quit("")
         if not line.startswith("#"):
-            self.carry_out([self._asked(line.split())])
+            self.carry_out([self._asked(self._split(line))])
         return False
 
     def carry_out(self, asked: Sequence[Asked]) -> None:
@@ -165,6 +204,8 @@ class Shell(cmd.Cmd):
             row.requests = [self.session.piece(row.rows)] if is_piece else self.session.requests(row.rows)
         requests = [request for row in asked for request in row.requests]
         left = collections.deque(asked)
+        if any(words[0] in CHANGES for row in asked for words in row.rows):
+            self.changed.append((self.session, self.session.case))
         with Progress(requests[0].line if sum(len(row.rows) for row in asked) == 1 else "at work") as progress:
             try:
                 for _ in self.service.follow(requests):
@@ -180,8 +221,8 @@ class Shell(cmd.Cmd):
     def lines_from_pipe(self, lines: Iterable[str]) -> bool:
         """Carries out lines that came at once, those that are commands of scripts in one piece. Says whether it is the end."""
         asked: list[Asked] = []
-        for line in lines:
-            words = line.split()
+        for line in map(self._plain, lines):
+            words = self._split(line)
             if not words or words[0].startswith("#"):
                 continue
             if words[0] in self.commands or not hasattr(self, f"do_{self.parseline(line)[0]}"):
@@ -205,9 +246,16 @@ class Shell(cmd.Cmd):
     def do_best(self, rest: str) -> bool:
         """The next measurement."""
         rows = self._waited("best", lambda: self.session.rank_probes(rest.split() or None))
-        told = [str(row) for row in rows if row.reduction > 0][:BEST]
-        self.say("\n".join(told) or "no wire splits the diagnoses at hand")
+        self.say(self._advice(rows, lambda: self.session.minimum().cost))
         return False
+
+    @staticmethod
+    def _advice(rows: Iterable[Proposal], cost: Callable[[], int]) -> str:
+        """The best of these, or why there are none."""
+        told = [str(row) for row in rows if row.reduction > 0][:BEST]
+        if not told and cost() == 0:
+            return "nothing is wrong yet: enter the inputs and what was read, such as see 1=0"
+        return "\n".join(told) or "no wire splits the diagnoses at hand"
 
     def do_case(self, _: str) -> bool:
         """What was seen and held."""
@@ -220,7 +268,8 @@ class Shell(cmd.Cmd):
         """What wires should be."""
         bits = self._waited("expect", self.session.expected)
         wires = [self.service.other_names.get(wire, wire) for wire in rest.split()]
-        for wire in wires or bits:
+        fixed = self._outputs_first(bits.keys() - self.service.inputs)
+        for wire in wires or fixed:
             if wire not in bits:
                 # An unknown name is refused, and the others are answered all the same.
                 try:
@@ -231,17 +280,60 @@ class Shell(cmd.Cmd):
                 continue
             seen = self.session.seen.get(wire, bits[wire])
             self.say(f"{wire} should be {bits[wire]}" + (f", and was seen as {seen}" if seen != bits[wire] else ""))
-        if not wires and not bits:
+        if not wires and not fixed:
             self.say("the inputs that were seen fix no wire")
         return False
 
+    def _outputs_first(self, wires: Iterable[str]) -> list[str]:
+        """Names in the order in which a person looks for them."""
+        outputs = frozenset() if self.service.file.suffix == ".nnf" else read_device(self.service.file).outputs
+
+        def is_inner(wire: str) -> bool:
+            return (wire if self.service.frames is None else wire.rpartition("@")[0]) not in outputs
+
+        return sorted(wires, key=lambda wire: (is_inner(wire), _natural(wire)))
+
+    def do_wires(self, _: str) -> bool:
+        """The names of the wires."""
+        return self._list_names(self._waited("wires", lambda: self.service.wires))
+
+    def do_parts(self, _: str) -> bool:
+        """The names of the parts."""
+        return self._list_names(self._waited("parts", lambda: self.service.parts))
+
+    def do_inputs(self, _: str) -> bool:
+        """The names of the inputs."""
+        return self._list_names(self.service.inputs)
+
+    def _list_names(self, names: Iterable[str]) -> bool:
+        text = " ".join(sorted(names, key=_natural))
+        self.say(textwrap.fill(text, WIDTH, break_long_words=False, break_on_hyphens=False) or "none")
+        return False
+
+    def do_restart(self, _: str) -> bool:
+        """The program anew."""
+        self._restart()
+        return False
+
+    def do_undo(self, _: str) -> bool:
+        """The case as it was before the last change."""
+        if not self.use_rawinput:
+            raise ValueError("undo is for lines that are typed: those from elsewhere are carried out many at a time")
+        self._waited("undo", self.service.catch_up)
+        while self.changed:
+            session, case = self.changed.pop()
+            if session.is_open and session.case != case:
+                self.session = session
+                self.service.do(session.becoming(case))
+                return self.do_case("")
+        raise ValueError("nothing is there to be taken back")
+
     def do_load(self, rest: str) -> bool:
         """The case of a script."""
-        text = _path(rest, "load FILE: which script?").read_text(encoding="utf-8", errors="surrogateescape")
-        rows = case_lines(text)
-        if not any(row[0] in CHANGES and len(row) > 1 for row in rows):
+        case = Case.from_script(_read_script(rest))
+        if not case:
             raise ValueError("nothing is seen or held in this script, whose lines are such as `see S a=0`")
-        self.carry_out([Asked(rows, is_counted=True)])
+        self.carry_out([Asked([[command, word] for command, words in case.words() for word in words], is_counted=True)])
         return False
 
     def do_save(self, rest: str) -> bool:
@@ -259,15 +351,15 @@ class Shell(cmd.Cmd):
 
     def _saved(self) -> tuple[str, str]:
         """The case as a script, and what is in it."""
-        seen, held = len(self.session.seen), len(self.session.held)
-        return f"open {self.session.name}\n{self.session.script()}", f"{seen} seen, {held} held"
+        case = self.session.case
+        return Board({self.session.name: case}).script(), f"{len(case.seen)} seen, {len(case.held)} held"
 
     def do_picture(self, rest: str) -> bool:
         """A picture of the case."""
         picture.check_drawable(self.service)
         out = graphviz.check_output(_path(rest, "picture OUT: into which file? out.svg, say"))
-        case = self._waited("picture", lambda: picture.Case.of(self.session))
-        written = graphviz.render(picture.dot_text(read_device(self.service.file), case, self.service.title), out)
+        found = self._waited("picture", lambda: picture.Findings.of(self.session))
+        written = graphviz.render(picture.dot_text(read_device(self.service.file), found, self.service.title), out)
         if written == out:
             self.say(f"wrote {written}")
         else:
@@ -326,18 +418,41 @@ class Shell(cmd.Cmd):
 
     complete_save = complete_picture = complete_load
 
+    def _split(self, line: str) -> list[str]:
+        """The words of a line. Readings need no command, and neither they nor tests need their blanks where they should be."""
+        command, *rest = line.split(None, 1) or [""]
+        if command in CHANGES:
+            return [command, *filter(None, words_of("".join(rest)))]
+        words = words_of(line)
+        return ["see", *words] if all("=" in word for word in words) else line.split()
+
     def _asked(self, words: list[str]) -> Asked:
         command = words[0]
         if command in ("open", "close"):
             raise ValueError("there is one session here, which is open to the end")
-        text = " ".join([*words, ""])
-        if command in CHANGES and (" =" in text or "= " in text):
-            raise ValueError(f"{REFUSED}write {command} name=value without blanks around =; nothing of this line was taken")
-        if command == "see" and (why := at_odds(words[1:], self.service.other_names)):
+        if command in ("see", "hold") and (why := at_odds(words[1:], self.service.other_names)):
             raise ValueError(f"{REFUSED}{why}")
+        if command == "see":
+            return self._asked_readings(words[1:])
         if len(words) > 2 and command in self.for_each:
             return Asked([[command, word] for word in words[1:]], command in CHANGES)
         return Asked([words])
+
+    def _asked_readings(self, words: Sequence[str]) -> Asked:
+        """Readings. One that says that nothing was read takes back what was."""
+        rows, before = [], []
+        for word in words:
+            name, equals, value = word.rpartition("=")
+            wire = self.service.other_names.get(name, name)
+            if equals and value.lower() in UNREAD:
+                rows += [["unsee", wire]] if wire in self.session.seen else []
+                continue
+            rows.append(["see", word])
+            if value in ("0", "1") and self.session.seen.get(wire, int(value)) != int(value):
+                before.append(f"{name}={self.session.seen[wire]}")
+        if words and not rows:
+            raise ValueError("nothing was read, and nothing was seen there before")
+        return Asked(rows or [["see"]], len(words) > 1, before if self.prompt else [])
 
     def _tell(self, left: collections.deque[Asked], clear: Callable[[], None]) -> None:
         """Prints what has come by now of the replies that are left."""
@@ -353,6 +468,8 @@ class Shell(cmd.Cmd):
                 texts += self._told(row, begin)
                 if row.told < len(row.requests):
                     break
+            if row.before:
+                texts[-1] += f" (before: {' '.join(row.before)})"
             left.popleft()
         if texts:
             clear()
@@ -463,6 +580,15 @@ class Shell(cmd.Cmd):
         return shown(missing) + (f"; near it: {', '.join(near)}" if near else "")
 
 
+def _natural(name: str) -> list[str | int]:
+    """By this key 2 comes before 10.
+
+    >>> sorted(["b10", "b2", "a"], key=_natural)
+    ['a', 'b2', 'b10']
+    """
+    return [int(text) if place % 2 else text for place, text in enumerate(re.split("([0-9]+)", name))]
+
+
 def in_words(reply: str) -> str:
     """A reply, as a person reads it."""
     return f"{reply} (nothing is wrong)" if reply in NOTHING_WRONG else reply
@@ -482,10 +608,18 @@ def _hint(given: str) -> str:
 
 
 def _path(rest: str, question: str) -> pathlib.Path:
-    """The file that a command names."""
-    if not rest.strip():
+    """The file that a command names, with quotes or without."""
+    name = rest.strip()
+    if len(name) > 1 and name[0] == name[-1] and name[0] in "'\"":
+        name = name[1:-1]
+    if not name:
         raise ValueError(question)
-    return pathlib.Path(os.path.expanduser(rest.strip()))
+    return pathlib.Path(os.path.expanduser(name))
+
+
+def _read_script(rest: str) -> str:
+    """The text of the script that a command names."""
+    return _path(rest, "load FILE: which script?").read_text(encoding="utf-8", errors="surrogateescape")
 
 
 def run(service: Service, begin: Callable[[Service, Session], Shell] = Shell) -> int:

@@ -8,8 +8,6 @@ import itertools
 import math
 import os
 import pathlib
-import shutil
-import subprocess
 import weakref
 from collections.abc import Callable, Iterable, Iterator, Mapping, Sequence
 from typing import TYPE_CHECKING, NoReturn
@@ -21,44 +19,18 @@ from .case import CHANGES, Board, Case
 from .child import Child
 from .devices import input_wires, other_names
 from .errors import Ended, NotBuilt, shown
+from .program import find_program
 from .replies import AnyLines, Lines, Ready, Request
 from .session import BLANKS, Session, check_list
 
 if TYPE_CHECKING:
     from .boards.holding import JointProgress
 
-TOP = pathlib.Path(__file__).resolve().parents[2]
-# The program in a wheel of this package.
-PACKED = pathlib.Path(__file__).parent / "bin/diag"
 # All options, and the numbers that some of them and HEALTH of `ask` take, from the least to the greatest.
 OPTIONS = {row.name: row for row in manual.rows("option").values()}
 LIMITS = manual.limits()
 
 Program = str | os.PathLike[str] | Sequence[str | os.PathLike[str]]
-
-
-def find_program() -> str:
-    """The path of what is started if nothing else is said.
-
-    It is what DIAG_PROGRAM in the environment names, or the program in a wheel of this package, or the built program of the checkout that
-    this module is in, or `diag` on the path. Raises `NotBuilt` if there is none.
-    """
-    if named := os.environ.get("DIAG_PROGRAM"):
-        return named
-    if PACKED.exists():
-        return str(PACKED)
-    launcher = TOP / "diag"
-    if launcher.exists():
-        # The launcher knows whether a program is built from these sources.
-        asked = subprocess.run([launcher, "--path"], stdout=subprocess.PIPE, encoding="utf-8", errors="surrogateescape", check=False)
-        if asked.returncode == 0:
-            return asked.stdout.rstrip("\n")
-        built = TOP / "crates/diag/out/diag"
-        why = f"the program is not built from these sources; DIAG_PROGRAM={built} runs it as it is" if built.exists() else "it is not built"
-        raise NotBuilt(f"{why}: `{launcher} --build` proves and builds it, which takes about 20 minutes and needs the kit")
-    if found := shutil.which("diag"):
-        return found
-    raise NotBuilt("there is no program `diag`: set DIAG_PROGRAM to the path of the built program, or give it as program=")
 
 
 def option_words(options: Mapping[str, int | bool | None]) -> list[str]:

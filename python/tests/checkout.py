@@ -44,7 +44,7 @@ def make_checkout(folder, program=None):
     shutil.copy(TOP / "diag", top)
     # What tools leave in that folder, caches and builds, stays there.
     shutil.copytree(TOP / "python/diag_client", top / "python/diag_client", ignore=shutil.ignore_patterns("__pycache__", "bin"))
-    for name in ("build-wheel", "pyproject.toml"):
+    for name in ("build-wheel", "pyproject.toml", "setup.py"):
         shutil.copy(TOP / "python" / name, top / "python")
     files = {
         "crates.txt": "# Lines in any order\ndiag: low std\nlow staticlib: std\ndiag_tests: diag\n", "HANDLES": "Handles allowed: none.\n",

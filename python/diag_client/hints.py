@@ -152,11 +152,33 @@ def faults_of_options(form: Row, file: str, words: Sequence[str]) -> Iterator[st
             yield f"`{word}` goes with {', '.join(row.beside)} alone, not with {', '.join(sorted(others))}"
 
 
-def main(status: str, last_line: str, *words: str) -> None:
-    """Prints what the launcher says."""
-    text = as_options(hint(int(status), last_line, words, words[1] if len(words) > 1 else ""))
-    print(f"{text}; `diag --help` shows all forms" if text and int(status) == 2 else text)
+def is_read(words: Sequence[str]) -> bool:
+    """Whether the file in the words of a form, if there is one, can be read, as far as that is seen before."""
+    path = pathlib.Path(words[1])
+    return "FILE" not in manual.rows("form")[words[0]].value or not path.is_dir() and os.access(path, os.R_OK)
+
+
+def said(status: int, last_line: str, words: Sequence[str]) -> str:
+    """What the launcher says."""
+    text = as_options(hint(status, last_line, words, words[1] if len(words) > 1 else ""))
+    return f"{text}; `diag --help` shows all forms" if text and status == 2 else text
+
+
+def before(*words: str) -> None:
+    """Prints how a run ends whose end is known before it begins: the status, the last line and what the launcher says."""
+    if text := said(2, "", words):
+        print(2, "error: usage", text, sep="|")
+    elif not is_read(words):
+        print(4, "error: read", said(4, "", words), sep="|")
+
+
+def after(status: str, last_line: str, *words: str) -> None:
+    """Prints what the launcher says after a run."""
+    print(said(int(status), last_line, words))
 
 
 if __name__ == "__main__":
-    main(*sys.argv[1:])
+    if sys.argv[1] == "before":
+        before(*sys.argv[2:])
+    else:
+        after(*sys.argv[2:])

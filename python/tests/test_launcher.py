@@ -306,6 +306,10 @@ class Unproved(WithKit):
             self.assertEqual((got, told, said.count("\n")), (status, f"{line}\n", 1), said)
             self.assertIn(why, said)
         self.assertFalse(self.said_to_rt.exists())
+        # Without a Python the program says it.
+        with mock.patch.dict(os.environ, PATH=f"{failing(self.elsewhere / 'python3').parent}:{os.environ['PATH']}"):
+            got, told, _ = self.run_unproved("plan", "run=ended status=2 runners=1 proved=no", RT_WRITES="error: usage")
+        self.assertEqual((got, told), (2, "error: usage\n"))
 
     def test_full_disk(self):
         env = {**os.environ, **self.with_kit(RT_ENDS="run=ended status=0 runners=1 proved=no")}

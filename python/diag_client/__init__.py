@@ -25,6 +25,8 @@ from .replies import Blame, Diagnosis, Graph, Level, Minimum, Probe, Verdict
 from .service import Service
 from .session import Session
 
+__version__ = "0"
+
 __all__ = [
     "BadScript",
     "BadTable",

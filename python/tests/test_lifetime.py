@@ -68,7 +68,8 @@ class Dropped(unittest.TestCase):
     def test_interpreter_ends(self):
         script = "import diag_client, sys; s = diag_client.Service('any.bench', program=sys.argv[1:]); print(s._child._process.pid)"
         environment = {**os.environ, "PYTHONPATH": str(TOP / "python")}
-        done = subprocess.run([sys.executable, "-c", script, *stand_in("is good")], env=environment, capture_output=True, text=True, check=True)
+        words = [sys.executable, "-c", script, *stand_in("is good")]
+        done = subprocess.run(words, env=environment, capture_output=True, text=True, check=True)
         self.assertFalse(is_alive(int(done.stdout)))
 
     def test_closed_ones_warn_of_nothing(self):

@@ -31,7 +31,8 @@ class ManySessions(unittest.TestCase):
 
     @unittest.skipUnless(has_parallel(), "there is no GNU parallel")
     def test_options_anywhere(self):
-        for words in (("--sessions", "4", C17, "SCRIPT"), (C17, "--narrow", "SCRIPT", "--jobs", "2"), (C17, "SCRIPT", "--least", "--alone")):
+        rows = (("--sessions", "4", C17, "SCRIPT"), (C17, "--narrow", "SCRIPT", "--jobs", "2"), (C17, "SCRIPT", "--least", "--alone"))
+        for words in rows:
             done = self.run_script(*words)
             self.assertEqual((done.returncode, done.stdout), (0, self.expected), done.stderr)
 

@@ -8,10 +8,13 @@ import shutil
 import subprocess
 import sys
 import tempfile
+import tomllib
 import unittest
 
 from checkout import leave_program, make_checkout
 from support import C17, EXAMPLES, PROGRAM, TOP, needs_program
+
+import diag_client
 
 # Whether a Python makes wheels and environments, and its `pip` installs into another one.
 IS_USABLE = """
@@ -41,14 +44,47 @@ REPAIR = [
 ]
 
 
-class Types(unittest.TestCase):
-    """They are checked, if there is what checks them."""
+class Checked(unittest.TestCase):
+    """The sources, by the settings in pyproject.toml, as far as there is what checks them."""
+
+    SETTINGS = TOP / "python/pyproject.toml"
+
+    def check(self, *words):
+        done = subprocess.run(words, capture_output=True, text=True, cwd=TOP / "python")
+        self.assertEqual(done.returncode, 0, done.stdout + done.stderr)
 
     @unittest.skipUnless(shutil.which("mypy"), "there is no mypy")
-    def test_strict(self):
-        words = ["mypy", "--strict", "--python-version=3.11", "--cache-dir=/dev/null", TOP / "python/diag_client"]
-        done = subprocess.run(words, capture_output=True, text=True)
-        self.assertEqual(done.returncode, 0, done.stdout + done.stderr)
+    def test_types(self):
+        self.check("mypy", "--config-file", self.SETTINGS, "--cache-dir=/dev/null", "diag_client")
+
+    def test_ruff(self):
+        """Debian 12 has none."""
+        if shutil.which("ruff"):
+            self.check("ruff", "check", "--no-cache", ".")
+
+    def test_lines(self):
+        most = tomllib.loads(self.SETTINGS.read_text())["tool"]["ruff"]["line-length"]
+        for path in (TOP / "python/diag_client").rglob("*.py"):
+            for number, line in enumerate(path.read_text().splitlines(), 1):
+                self.assertLessEqual(len(line), most, f"{path}:{number}")
+
+    def test_public_names(self):
+        """The reference, which `pydoc` makes, has them all."""
+        told = subprocess.run([sys.executable, "-m", "pydoc", "diag_client"], capture_output=True, text=True, cwd=TOP / "python").stdout
+        for name in diag_client.__all__:
+            self.assertRegex(told, rf"(?m)^    (class )?{name}\b")
+
+
+class Skipped(unittest.TestCase):
+    """Tests without a program are skipped, which the last line says, and fail where CI is true."""
+
+    def test_said(self):
+        words = [sys.executable, "-m", "unittest", "discover", "-s", TOP / "python/tests", "-p", "test_advice.py"]
+        for variables, status in (({}, 0), ({"CI": "true"}, 1)):
+            others = {name: value for name, value in os.environ.items() if name != "CI"}
+            done = subprocess.run(words, capture_output=True, text=True, env={**others, "DIAG_PROGRAM": "/nowhere/diag", **variables})
+            self.assertEqual(done.returncode, status, done.stderr)
+            self.assertRegex(done.stderr.splitlines()[-1], r"^([0-9]+) skipped: \1 since there is no program /nowhere/diag: ")
 
 
 @needs_program

@@ -1,7 +1,7 @@
 # Completion of `diag` for bash: `source completions/diag.bash`. It needs neither the launcher nor the checkout.
 
-# Made by `docs/write-help --write`: each form with the number of words before its options and the endings of its FILE, and each option, with
-# `=` before a number, its forms, and the endings and the other options that it goes with, if not with all.
+# Made by `docs/write-help --write`: each form with the number of words before its options and the endings of its FILE, and each option,
+# with `=` before a number, its forms, and the endings and the other options that it goes with, if not with all.
 _diag_table='form serve 3 .bench,.dev
 form plan 3 .bench,.dev
 form compile 3 .bench,.dev
@@ -24,7 +24,8 @@ option --least serve - -'
 _diag_is_in() { [[ $2 == - || ,$2, == *,"$1",* ]]; }
 
 _diag() {
-  local word=${COMP_WORDS[COMP_CWORD]} form=${COMP_WORDS[1]-} file=${COMP_WORDS[2]-} given kind name first second third place=0 endings='' forms='' options=''
+  local word=${COMP_WORDS[COMP_CWORD]} form=${COMP_WORDS[1]-} file=${COMP_WORDS[2]-} given place=0 endings='' forms='' options=''
+  local kind name first second third
   COMPREPLY=()
   given=("${COMP_WORDS[@]:3:COMP_CWORD > 3 ? COMP_CWORD - 3 : 0}")
   while read -r kind name first second third; do
@@ -58,7 +59,8 @@ _diag_fits() {
   done
 }
 
-# Offers folders, and files with one of these endings. As names of files they are quoted where they have to be, and a folder alone is gone into.
+# Offers folders, and files with one of these endings. As names of files they are quoted where they have to be, and a folder alone is gone
+# into.
 _diag_files() {
   local path
   compopt -o filenames 2>/dev/null

@@ -23,7 +23,10 @@ SIGN, WORD = re.compile(r"[^\s(),=#]+|[(),=]"), re.compile(r"[^\s#]+")
 # As much of a line as fits one of the two forms in a netlist.
 FORMS = [
     re.compile(form.replace("W", r"[^\s(),=#]+"), re.IGNORECASE)
-    for form in (r"\s*(INPUT|OUTPUT)\s*(\(\s*(W\s*(\)\s*)?)?)?", r"\s*(W\s*(=\s*(W\s*(\(\s*(W\s*(,\s*W\s*)*)?(\)\s*)?)?)?)?)?")
+    for form in (
+        r"\s*(INPUT|OUTPUT)\s*(\(\s*(W\s*(\)\s*)?)?)?",
+        r"\s*(W\s*(=\s*(W\s*(\(\s*(W\s*(,\s*W\s*)*)?(\)\s*)?)?)?)?)?",
+    )
 ]
 NAME = re.compile(r"[!-~]{1,64}")
 MOST_PORTS = 6

@@ -138,7 +138,8 @@ def faults_of_options(form: Row, file: str, words: Sequence[str]) -> Iterator[st
     for word in left:
         row = taken.get(word)
         if row is None:
-            yield f"`{form.word}` takes no `{shown(word)}`" + (": a blank, and no =, comes before a number" if re.match("--.*=", word) else "")
+            more = ": a blank, and no =, comes before a number" if re.match("--.*=", word) else ""
+            yield f"`{form.word}` takes no `{shown(word)}`{more}"
             return
         if word in given:
             yield f"`{word}` is given twice"

@@ -23,8 +23,8 @@ WORD, NAMED = {1: 0, 6: 1, 7: 1, 8: 1, 11: 0, 12: 0}, {9: 2, 10: 2}
 def refused_lines(script: Iterable[str], replies: Iterable[str]) -> Iterator[str]:
     """What is to be said of each refused line of a script.
 
-    >>> list(refused_lines(["# C17", "open S", "see S 99=1", "list S 2", "dance"], ["ready 6 11", "S open", "S error 9 no wire", "S end", "error 1 unknown command"]))
-    ['line 3 of the script: no wire: 99 in `see S 99=1`', 'line 5 of the script: unknown command: dance']
+    >>> list(refused_lines(["# C17", "open S", "see S 99=1", "min S"], ["ready 6 11", "S open", "S error 9 no wire", "S min 0"]))
+    ['line 3 of the script: no wire: 99 in `see S 99=1`']
     """
     told = iter(replies)
     if not next(told, "").startswith("ready "):

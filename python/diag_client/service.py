@@ -66,8 +66,9 @@ def words_of(path: str, health: int | None, options: Mapping[str, int | bool | N
     """The words that start a service of a device, or of a graph. Raises ValueError if they are no form."""
     if health is None and path.endswith(".nnf"):
         raise ValueError(f"{path}: a graph (.nnf) needs health=N, the number of its parts")
+    words = ["serve", path] if health is None else ["ask", path, str(health)]
     # A graph is compiled already, and stays as it is with `narrow` or without.
-    words = ["serve", path, *option_words(options)] if health is None else ["ask", path, str(health), *option_words({**options, "narrow": False})]
+    words += option_words(options if health is None else {**options, "narrow": False})
     if fault := next(hints.faults_of_words(words), ""):
         raise ValueError(f"{shown(path)}: {fault}")
     return words

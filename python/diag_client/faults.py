@@ -36,7 +36,7 @@ Place = tuple[str, int]
 
 
 def hint(file: pathlib.Path, last_line: str) -> str:
-    """The line, the column and the word that the last line of the output is about, as far as they are found; or which mark is before all."""
+    """The line, the column and the word that the last line of the output is about, if they are found; or which mark is before all."""
     fault = FAULT.match(last_line)
     try:
         # A pipe is read already, and would be waited for.

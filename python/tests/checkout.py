@@ -67,14 +67,14 @@ def make_checkout(folder, program=None):
 
 
 def leave_program(top, program):
-    """Leaves a program as `rt ci` does, which has no record: it is run last, in two ways."""
+    """Leaves a program as `rt ci` does, which has no record: it is compiled in a second way, and both are run."""
     out = top / "crates/diag/out"
     out.mkdir(exist_ok=True)
     (out / "diag.sources").unlink(missing_ok=True)
     wait_past(out, out)
     put_program(top, program)
     wait_past(out, out / "diag")
-    for name in ("stdout", "stdout.by-rattle"):
+    for name in ("diag.by-rattle", "stdout", "stdout.by-rattle"):
         (out / name).touch()
 
 

@@ -107,8 +107,11 @@ class IsCurrent(InCheckout):
         out = self.top / "crates/diag/out"
         for change in (
             lambda: (out / "stdout.by-rattle").unlink(),
-            lambda: (wait_past(out, out / "stdout.by-rattle"), put_program(self.top, FAKE_PROGRAM)),
-            lambda: (wait_past(out, out / "stdout.by-rattle"), put_program(self.top, pathlib.Path("/bin/true")), (out / "stdout").touch()),
+            lambda: (out / "diag.by-rattle").unlink(),
+            lambda: (wait_past(out, out / "diag.by-rattle"), put_program(self.top, FAKE_PROGRAM)),
+            # `rt ci diag` works on a copy, and leaves here what its programs wrote.
+            lambda: (wait_past(out, out / "diag.by-rattle"), put_program(self.top, FAKE_PROGRAM), (out / "stdout.by-rattle").touch()),
+            lambda: (wait_past(out, out / "diag.by-rattle"), put_program(self.top, pathlib.Path("/bin/true")), (out / "stdout").touch()),
             lambda: leave_program(self.top, pathlib.Path("/bin/true")),
             lambda: (wait_past(out, out / "diag"), (self.top / "crates/low/src/lib.rt").touch()),
             lambda: (wait_past(out, out / "diag"), (self.top / "crates/low/specs/Low.antt").unlink()),
@@ -156,12 +159,12 @@ class IsCurrent(InCheckout):
             (out / "diag.sources").unlink(missing_ok=True)
             runs = [subprocess.Popen([self.top / "diag", "--path"], stdout=subprocess.DEVNULL) for _ in range(8)]
             self.assertEqual([run.wait() for run in runs], [0] * len(runs))
-        self.assertEqual(sorted(os.listdir(out)), ["diag", "diag.sources", "stdout", "stdout.by-rattle"])
+        self.assertEqual(sorted(os.listdir(out)), ["diag", "diag.by-rattle", "diag.sources", "stdout", "stdout.by-rattle"])
 
     def test_record_that_cannot_be_written(self):
         """The program is current all the same."""
         self.assertEqual(self.run_diag("--path", PATH=self.without_tee())[0], 0)
-        self.assertEqual(sorted(os.listdir(self.top / "crates/diag/out")), ["diag", "stdout", "stdout.by-rattle"])
+        self.assertEqual(sorted(os.listdir(self.top / "crates/diag/out")), ["diag", "diag.by-rattle", "stdout", "stdout.by-rattle"])
 
 
 class Hints(InCheckout):

@@ -10,7 +10,7 @@ import sys
 from collections.abc import Iterator, Sequence
 
 from . import faults, manual
-from .errors import shown
+from .errors import sentence, shown
 from .manual import Row
 
 LIMITS = manual.limits()
@@ -73,10 +73,14 @@ def of_sum(words: Sequence[str]) -> str:
 
 def of_reading(file: pathlib.Path) -> str:
     """Why a file cannot be read."""
-    if file.is_dir():
+    if os.path.isdir(file):
         return f"{file} is a folder"
-    if not file.exists():
+    try:
+        file.stat()
+    except FileNotFoundError:
         return f"there is no file {file}"
+    except OSError as error:
+        return sentence(error)
     return f"{file} may not be read by you" if not os.access(file, os.R_OK) else "the file or the script could not be read to its end"
 
 
@@ -155,8 +159,7 @@ def faults_of_options(form: Row, file: str, words: Sequence[str]) -> Iterator[st
 
 def is_read(words: Sequence[str]) -> bool:
     """Whether the file in the words of a form, if there is one, can be read, as far as that is seen before."""
-    path = pathlib.Path(words[1])
-    return "FILE" not in manual.rows("form")[words[0]].value or not path.is_dir() and os.access(path, os.R_OK)
+    return "FILE" not in manual.rows("form")[words[0]].value or not os.path.isdir(words[1]) and os.access(words[1], os.R_OK)
 
 
 def said(status: int, last_line: str, words: Sequence[str]) -> str:

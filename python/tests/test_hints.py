@@ -121,7 +121,10 @@ class OfWords(unittest.TestCase):
             ("plan x.bench --narrow", "even so the device is too wide; a smaller piece of the circuit may be served"), ("load 800", ""),
         ):
             self.assertEqual(hints.hint(3, "error: sum above 2097152", words.split(), "x.bench"), said)
-        for file, said in ((C17.parent, "is a folder"), ("none.bench", "there is no file none.bench"), (C17, "could not be read to its end")):
+        for file, said in (
+            (C17.parent, "is a folder"), ("none.bench", "there is no file none.bench"), (C17, "could not be read to its end"),
+            (f"{'x' * 999}.bench", ".bench: file name too long"),
+        ):
             self.assertIn(said, hints.hint(4, "error: read", ["plan", os.fspath(file)], file))
 
 

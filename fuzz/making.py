@@ -250,9 +250,9 @@ def options(r, form, sum, times=0, vars=0):
         found.append(["--budget", str(max(1, r.choice([sum - 1, sum - 1, sum, sum, sum, sum + 1, sum // 2, 8388608, 1])))])
     if "--levels" in takes and chance(r, 35):
         found.append(levels_option(r, nodes_within(sum, vars)))
-    for option, number in takes.items():
-        if option not in CHOSEN and chance(r, 40 if number else 30):
-            found.append([option, *([str(r.choice(NUMBERS.get(option) or LIMITS[option[2:]]))] if number else [])])
+    for option, row in takes.items():
+        if option not in CHOSEN and chance(r, 40 if row.value else 30):
+            found.append([option, *([str(r.choice(NUMBERS.get(option) or (row.least, row.most)))] if row.value else [])])
     r.shuffle(found)
     words = [word for option in found for word in option]
     if chance(r, 2):

@@ -30,10 +30,10 @@ class Form:
     endings: tuple
 
 
-# The forms over a file, and what may follow each by the launcher's help, with the letter of a number if one follows.
+# The forms over a file, and the options of each by the table of forms.
 FORMS = {"serve": Form(28, (*DEVICES,)), "plan": Form(10, (*DEVICES,)), "compile": Form(10, (*DEVICES,)),
          "check": Form(8, GRAPHS), "ask": Form(16, GRAPHS)}
-OPTIONS = {form: entry.option_words() for form, entry in manual.forms().items()}
+OPTIONS = {form: manual.rows("option", form) for form in manual.rows("form")}
 
 
 class TooLarge(Exception):
@@ -67,8 +67,12 @@ def options_of(form, words):
         word = words.pop(0)
         if word not in OPTIONS[form] or word[2:] in found:
             raise USAGE
-        takes_number = OPTIONS[form][word]
-        found[word[2:]] = number(words.pop(0) if words else "", *LIMITS[word[2:]]) if takes_number else True
+        row = OPTIONS[form][word]
+        found[word[2:]] = number(words.pop(0) if words else "", row.least, row.most) if row.value else True
+    for name in found:
+        beside = OPTIONS[form][f"--{name}"].beside
+        if beside and not {f"--{other}" for other in found} <= {f"--{name}", *beside}:
+            raise USAGE
     return found
 
 

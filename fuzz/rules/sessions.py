@@ -17,7 +17,7 @@ SESSION_NAME, NAME = 64, 255
 # What may follow the name of a session.
 WIRE, PART, READING, MODE, COUNT, PARTS = "w", "p", "w=b", "p=m", "k", "p1 .. pk"
 VALUES = {READING: {b"0": False, b"1": True}, MODE: {b"ok": True, b"bad": False}}
-# What follows the session's name in each command, by the launcher's help. A method of the session answers each but the first two.
+# What follows the session's name in each command, by the table of forms. A method of the session answers each but the first two.
 TAKES = {command.encode(): " ".join(usage.words) for command, usage in manual.usages().items()}
 # Refusals by their numbers, as the page has them.
 SCRIPT = (pathlib.Path(__file__).resolve().parents[2] / "docs/SCRIPT.md").read_text()

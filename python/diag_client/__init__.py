@@ -20,8 +20,9 @@ from .boards.joint import Joint, JointProposal
 from .boards.tables import BadTable
 from .case import Board, Case, Mode
 from .errors import BadScript, Changed, DiagError, Ended, Inconsistent, NotBuilt, OtherProcess, Refused, TimedOut
+from .program import find_program
 from .replies import Blame, Diagnosis, Graph, Level, Minimum, Probe, Verdict
-from .service import Service, find_program
+from .service import Service
 from .session import Session
 
 __version__ = "0"

@@ -10,6 +10,7 @@ import sys
 from . import bench, interrupts, progress
 from .errors import DiagError, sentence
 from .files import drop_unwritten, open_streams
+from .hints import as_options
 from .pictures import command as pictures
 from .terminal import patterns, shell
 
@@ -75,7 +76,7 @@ def main() -> int:
         # Nobody reads what is written.
         return 1
     except (DiagError, OSError, ValueError) as error:
-        print("diag_client:", progress.as_options(sentence(error)), file=sys.stderr)
+        print("diag_client:", as_options(sentence(error)), file=sys.stderr)
         return 1
     finally:
         drop_unwritten()

@@ -1,181 +1,132 @@
-"""The launcher's help, read into its entries, and the manual page that is made of them.
+"""The one table of forms, options, commands and statuses, `forms.tsv`, and what the client goes by.
 
-`docs/write-help` makes its forms, options and commands of the tables of docs/SCRIPT.md. The terminal, the manual page, the completion and
-the tests of all three go by the help alone.
+`docs/write-help` makes the help, the manual page, the completion and tables of the pages from it. The launcher reads it too.
 """
 
 from __future__ import annotations
 
 import dataclasses
+import functools
 import pathlib
 import re
-import textwrap
-from collections.abc import Sequence
+from collections.abc import Mapping
 
-# The launcher prints this file. It is package data, so it is there without the checkout.
-HELP = pathlib.Path(__file__).parent / "help.txt"
-# So long are the lines of the page's source.
-LINE = 120
-# When what is said here was last changed.
-DATE = "2026-12-01"
-FILES = {
-    "crates/diag/out/diag": "the built program; it needs nothing else and may be copied",
-    "crates/diag/out/diag.sources": "the checksums of the sources and of the program that was built from them",
-    "crates/diag/out/build.log": "all that the kit said when the program was proved",
-}
-EXAMPLES = {
-    "The faults of a netlist that explain a script's readings:": ["diag serve examples/c17.bench < examples/c17.script"],
-    "How large a netlist is along a forest that is looked for:": ["diag plan examples/ttl_74283.bench --narrow"],
-}
-SUMMARY = (
-    "`diag` reads the design of a digital device, and then what was seen on its wires. Where the readings disagree with the design, it says"
-    " which sets of faulty parts explain them at the least cost."
-)
+# It is package data, so it is there without the checkout.
+TABLE = pathlib.Path(__file__).parent / "forms.tsv"
 
 
-@dataclasses.dataclass
-class Entry:
-    """What is explained, and how. `options` explain words that may follow it; `notes` come after these."""
+@dataclasses.dataclass(frozen=True)
+class Row:
+    """A row of the table. Which columns are filled goes by its kind.
 
-    head: str
-    text: str = ""
-    options: list[Entry] = dataclasses.field(default_factory=list)
-    notes: str = ""
-    indent: int = dataclasses.field(default=0, repr=False)
+    A `form` has a word, the words that follow it as `value`, and the endings of its file. An `operand` is a number among these words. An
+    `option` may follow the forms that it is `of`. `value` is the letter of its number, if it takes one; `files` are the only endings of
+    files, and `beside` the only other options, that it goes with. A `command` of a script has its words as `value`, and `beside` the
+    option that allows it. Its type says what the last letter of these words stands for: words to choose from, or a number.
+    """
 
-    def option_words(self) -> dict[str, str]:
-        """The options that may follow, by whatever is said of it, each with the letter of the number that follows it, if one does."""
-        said = [self.text, self.notes] + [option.head for option in self.options]
-        return dict(sorted(re.findall(r"(--[a-z]+)(?: ([A-Z])\b)?", " ".join(said))))
+    kind: str
+    of: tuple[str, ...]
+    word: str
+    value: str
+    type: str
+    least: int | None
+    most: int | None
+    default: int | None
+    files: tuple[str, ...]
+    beside: tuple[str, ...]
+    text: str
+    prints: str
 
+    @property
+    def head(self) -> str:
+        """How it is typed: `--budget N`."""
+        return f"{self.word} {self.value}".strip()
 
-@dataclasses.dataclass
-class Section:
-    """Entries under a title, which the first section has not."""
+    @property
+    def name(self) -> str:
+        """What it is called in Python."""
+        return self.word.removeprefix("--").lower()
 
-    title: str
-    entries: list[Entry] = dataclasses.field(default_factory=list)
+    @property
+    def choices(self) -> str:
+        """What the last letter of a command may stand for, as the pages say it; nothing if it is a name or there is none."""
+        letter = self.value[-1:]
+        if self.type != "number":
+            return f"{letter} is " + " or ".join(f"`{word}`" for word in self.type.split()) if self.type else ""
+        return f"{letter} may be {self.least}" if self.most is None else f"{letter} is {self.range}"
+
+    @property
+    def range(self) -> str:
+        """The numbers that it takes, as the pages say it."""
+        return f"{self.least:,} to {self.most:,}"
 
 
 @dataclasses.dataclass(frozen=True)
 class Usage:
-    """One command of a script: `see` with the words that follow the session's name."""
+    """One command of a script: `see` with the words that follow the session's name, and which `choices` there are for the last of them."""
 
     command: str
     words: tuple[str, ...]
     text: str
+    choices: str
 
 
-def read_help() -> list[Section]:
-    """What `diag --help` prints."""
-    return sections(HELP.read_text(encoding="utf-8"))
+def read_row(cells: Mapping[str, str]) -> Row:
+    """A row, from its cells by the names of their columns."""
+
+    def words(name: str) -> tuple[str, ...]:
+        return tuple(cells[name].split())
+
+    def number(name: str) -> int | None:
+        return int(cells[name]) if cells[name] else None
+
+    return Row(
+        cells["kind"], words("of"), cells["word"], cells["value"], cells["type"], number("least"), number("most"), number("default"),
+        words("files"), words("beside"), cells["text"], cells["prints"],
+    )
 
 
-def forms() -> dict[str, Entry]:
-    """The forms of the command line, by their first words."""
-    return {entry.head.split()[1]: entry for entry in read_help()[0].entries}
+@functools.cache
+def rows(kind: str, of: str = "") -> Mapping[str, Row]:
+    """The rows of a kind by their words, or those of them that belong to one form.
+
+    >>> [row.head for row in rows("option", "ask").values()], rows("option")["--budget"].range
+    (['--sessions N'], '1 to 8,388,608')
+    """
+    first, *lines = (line.split("\t") for line in TABLE.read_text(encoding="utf-8").splitlines())
+    found = (read_row(dict(zip(first, cells, strict=True))) for cells in lines)
+    return {row.word: row for row in found if row.kind == kind and (not of or of in row.of)}
 
 
 def limits() -> dict[str, tuple[int, int]]:
-    """The numbers that options of `serve` take, from the least to the greatest, by the options' names."""
-    ranges = {option.head: re.search("from ([0-9]+) to ([0-9]+)", option.text) for option in forms()["serve"].options}
-    return {head.split()[0].removeprefix("--"): (int(found[1]), int(found[2])) for head, found in ranges.items() if found}
+    """The least and the greatest number that options and HEALTH of `ask` take, by their names."""
+    numbers = (*rows("option").values(), *rows("operand", "ask").values())
+    return {row.name: (row.least, row.most) for row in numbers if row.least is not None and row.most is not None}
 
 
-def sections(text: str) -> list[Section]:
-    """The sections of a help text. Blank lines part them, and the first line of each but the first is its title.
-
-    An entry begins at the left edge; what explains it comes after two spaces or more, or indented below it. An indented line that
-    begins with an option and is explained in the same way begins an option of the entry, whose text is indented further.
-
-    >>> found = sections("diag go  goes:\\n         --far   farther\\n                 than that\\n         where it is\\n")
-    >>> entry = found[0].entries[0]
-    >>> entry.head, entry.text, entry.notes, [(option.head, option.text) for option in entry.options]
-    ('diag go', 'goes:', 'where it is', [('--far', 'farther than that')])
-    """
-    found = []
-    for number, chunk in enumerate(text.strip("\n").split("\n\n")):
-        lines = chunk.split("\n")
-        section = Section("" if number == 0 else lines.pop(0).rstrip(":"))
-        for line in lines:
-            _add_line(section, line)
-        found.append(section)
-    return found
+def unlinked(cell: str) -> str:
+    """A cell without links."""
+    return re.sub(r"\[([^\]]*)\]\([^)]*\)", r"\1", cell)
 
 
-def _add_line(section: Section, line: str) -> None:
-    indent = len(line) - len(line.lstrip())
-    head, _, text = line.strip().partition("  ")
-    if indent == 0:
-        section.entries.append(Entry(head, text.strip()))
-        return
-    entry = section.entries[-1]
-    if head.startswith("--") and text:
-        entry.options.append(Entry(head, text.strip(), indent=indent))
-    elif entry.options and indent > entry.options[-1].indent:
-        option = entry.options[-1]
-        option.text = f"{option.text} {line.strip()}"
-    elif entry.options or entry.notes or "FILE ends in" in line:
-        # What is said of FILE is said of more than one entry, and is a note of its own.
-        entry.notes = f"{entry.notes} {line.strip()}".strip()
-    else:
-        entry.text = f"{entry.text} {line.strip()}".strip()
+def plain(cell: str) -> str:
+    """A cell as a terminal shows it: without links and marks of code, and numbers as they are typed."""
+    return re.sub(r"(?<=[0-9]),(?=[0-9]{3})", "", unlinked(cell).replace("`", ""))
+
+
+def needs(row: Row) -> str:
+    """What a command needs, or which other options an option goes with, as the pages say it."""
+    options = rows("option")
+    if row.kind == "command":
+        return "".join(f"with `{options[word].head}`" for word in row.beside)
+    return "with no other option than " + ", ".join(f"`{word}`" for word in row.beside) if row.beside else ""
 
 
 def usages() -> dict[str, Usage]:
-    """The commands of a script, by their words: those of the section whose entries name a session."""
-    section, = (section for section in read_help() if section.title.startswith("Lines of a script"))
-    rows = ((entry.head.split(), entry.text) for entry in section.entries)
-    return {command: Usage(command, tuple(words), text) for (command, _, *words), text in rows}
-
-
-def _roff(text: str) -> str:
-    """A text as the formatter reads it back, in lines. What is between backquotes is set in bold."""
-    text = text.replace("\\", "\\e").replace("-", "\\-").replace("'", "\\(aq")
-    text = re.sub(r"`([^`]*)`", r"\\fB\1\\fP", text)
-    lines = textwrap.wrap(text, LINE, break_long_words=False, break_on_hyphens=False)
-    # A dot at the left edge would be a request to the formatter.
-    return "\n".join("\\&" + line if line.startswith(".") else line for line in lines)
-
-
-def _entry_lines(entry: Entry) -> list[str]:
-    lines = [".TP", f".B {_roff(entry.head)}", _roff(entry.text)]
-    if entry.options:
-        lines.append(".RS")
-        for option in entry.options:
-            lines += _entry_lines(option)
-        lines.append(".RE")
-    if entry.notes:
-        lines += [".IP", _roff(entry.notes)]
-    return lines
-
-
-def page(found: Sequence[Section]) -> str:
-    """The manual page: each entry of the help under a heading of its section."""
-    forms, *others = found
-    lines = [
-        ".\\\" Made by `docs/write-help --write`. Do not edit.",
-        f".TH DIAG 1 {DATE}",
-        ".SH NAME",
-        "diag \\- verified diagnosis of digital devices",
-        ".SH SYNOPSIS",
-    ]
-    launchers = [entry for section in others for entry in section.entries if entry.head.startswith("diag ")]
-    for entry in forms.entries + launchers:
-        options = "".join(f" [{' '.join(words).strip()}]" for words in entry.option_words().items() if entry not in launchers)
-        lines += [f".B {_roff(entry.head + options)}", ".br"]
-    lines[-1] = ".SH DESCRIPTION"
-    lines.append(_roff(SUMMARY))
-    for section, title in [(forms, "Forms")] + [(section, section.title) for section in others]:
-        heading, _, more = title.partition(", ")
-        lines += [f".SH {_roff(heading.upper())}"] + ([_roff(more[:1].upper() + more[1:] + ".")] if more else [])
-        for entry in section.entries:
-            lines += _entry_lines(entry)
-    lines += [".SH FILES"]
-    for name, text in FILES.items():
-        lines += [".TP", f".B {_roff(name)}", _roff(text)]
-    lines += [".SH EXAMPLES"]
-    for text, commands in EXAMPLES.items():
-        lines += [_roff(text), ".PP", ".nf", ".RS", *(_roff(command) for command in commands), ".RE", ".fi", ".PP"]
-    lines += [".SH SEE ALSO", "README.md, docs/SCRIPT.md, docs/NETLIST.md and docs/PYTHON.md in the checkout."]
-    return "\n".join(lines) + "\n"
+    """The commands of a script, by their words."""
+    found = {}
+    for row in rows("command").values():
+        text = "; ".join(filter(None, (row.text, row.choices, needs(row))))
+        found[row.word] = Usage(row.word, tuple(row.value.split()[1:]), plain(text), plain(row.choices))
+    return found

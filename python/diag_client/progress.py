@@ -4,20 +4,16 @@ from __future__ import annotations
 
 import argparse
 import os
-import re
 import sys
 import threading
 import time
 from collections.abc import Mapping
 from typing import Any, TextIO
 
-from .service import LIMITS, Service
+from .service import Service
 
 # So many seconds pass before anything is shown, and between two times that it is shown.
 PAUSE = 1.0
-# An option as it is given in Python, and one that a text begins with.
-OPTION = re.compile(rf"\b({'|'.join(LIMITS)})=(\w+)")
-NAMED = re.compile(rf"^({'|'.join(LIMITS)}) is ")
 
 
 class Progress:
@@ -68,17 +64,6 @@ def compiling(file: str | os.PathLike[str], options: Mapping[str, Any]) -> Progr
     """The progress of a service while it is made."""
     work = "compiling" if options.get("narrow") is False else "searching a forest and compiling"
     return Progress(f"{work if options.get('health') is None else 'reading'} {os.path.basename(os.fspath(file))}")
-
-
-def as_options(text: str) -> str:
-    """A text with options as the command line has them, and not as Python does.
-
-    >>> as_options("try narrow=True, then budget=8388608")
-    'try --narrow, then --budget 8388608'
-    >>> as_options("frames is from 1 to 64, not 0")
-    '--frames is from 1 to 64, not 0'
-    """
-    return NAMED.sub(r"--\1 is ", OPTION.sub(r"--\1 \2", text.replace("narrow=True", "--narrow")))
 
 
 def options_in(words: argparse.Namespace) -> dict[str, Any]:

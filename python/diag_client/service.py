@@ -8,63 +8,29 @@ import itertools
 import math
 import os
 import pathlib
-import re
-import shutil
-import subprocess
 import weakref
 from collections.abc import Callable, Iterable, Iterator, Mapping, Sequence
 from typing import TYPE_CHECKING, NoReturn
 
-from . import manual
+from . import hints, manual
 from .boards.joint import Joint
 from .boards.tables import BadTable, Rows, read_table
 from .case import CHANGES, Board, Case
-from .child import PIECE, Child
+from .child import Child
 from .devices import input_wires, other_names
 from .errors import Ended, NotBuilt, shown
+from .program import find_program
 from .replies import AnyLines, Lines, Ready, Request
 from .session import BLANKS, Session, check_list
 
 if TYPE_CHECKING:
     from .boards.holding import JointProgress
 
-TOP = pathlib.Path(__file__).resolve().parents[2]
-# The program in a wheel of this package.
-PACKED = pathlib.Path(__file__).parent / "bin/diag"
-# The options of `serve`, and the numbers that some of them and HEALTH of `ask` take, from the least to the greatest.
-OPTIONS = {word.removeprefix("--") for word in manual.forms()["serve"].option_words()}
-LIMITS = manual.limits() | {"health": (0, 4096)}
-# A fault in a text, and how it names its line.
-FAULT = re.compile(r"error: line ([0-9]+): fault ")
-UTF_16 = "the file is in UTF-16: save it as UTF-8"
-# What some editors put before a text.
-MARKS = {b"\xef\xbb\xbf": "the file begins with a byte order mark: save it as UTF-8 without one", b"\xff\xfe": UTF_16, b"\xfe\xff": UTF_16}
+# All options, and the numbers that some of them and HEALTH of `ask` take, from the least to the greatest.
+OPTIONS = {row.name: row for row in manual.rows("option").values()}
+LIMITS = manual.limits()
 
 Program = str | os.PathLike[str] | Sequence[str | os.PathLike[str]]
-
-
-def find_program() -> str:
-    """The path of what is started if nothing else is said.
-
-    It is what DIAG_PROGRAM in the environment names, or the program in a wheel of this package, or the built program of the checkout that
-    this module is in, or `diag` on the path. Raises `NotBuilt` if there is none.
-    """
-    if named := os.environ.get("DIAG_PROGRAM"):
-        return named
-    if PACKED.exists():
-        return str(PACKED)
-    launcher = TOP / "diag"
-    if launcher.exists():
-        # The launcher knows whether a program is built from these sources.
-        asked = subprocess.run([launcher, "--path"], stdout=subprocess.PIPE, encoding="utf-8", errors="surrogateescape", check=False)
-        if asked.returncode == 0:
-            return asked.stdout.rstrip("\n")
-        built = TOP / "crates/diag/out/diag"
-        why = f"the program is not built from these sources; DIAG_PROGRAM={built} runs it as it is" if built.exists() else "it is not built"
-        raise NotBuilt(f"{why}: `{launcher} --build` proves and builds it, which takes about half an hour and needs the kit")
-    if found := shutil.which("diag"):
-        return found
-    raise NotBuilt("there is no program `diag`: set DIAG_PROGRAM to the path of the built program, or give it as program=")
 
 
 def option_words(options: Mapping[str, int | bool | None]) -> list[str]:
@@ -80,20 +46,10 @@ def option_words(options: Mapping[str, int | bool | None]) -> list[str]:
     return words
 
 
-def check_options(file: pathlib.Path, options: Mapping[str, int | bool | None]) -> None:
+def check_options(options: Mapping[str, int | bool | None]) -> None:
     """Raises TypeError or ValueError for options that no program takes, before one is started."""
-    suffixes = (".bench", ".dev") if options["health"] is None else (".nnf",)
-    try:
-        os.fspath(file).encode()
-    except UnicodeEncodeError:
-        raise ValueError(f"{os.fspath(file)!r}: the program takes names in UTF-8 only; give the file another name") from None
-    if file.suffix not in suffixes:
-        hints = {".nnf": "; a graph (.nnf) needs health=N, the number of its parts"}
-        hints |= dict.fromkeys((".blif", ".json"), f"; `diag-netlist {file}` makes one")
-        hints |= dict.fromkeys((".v", ".sv"), "; of Verilog yosys and then `diag-netlist` make one")
-        raise ValueError(f"{file}: the name of the file ends in {' or '.join(suffixes)}{hints.get(file.suffix, '')}")
     for name, value in options.items():
-        if name not in OPTIONS | {"health"}:
+        if name not in OPTIONS and name != "health":
             raise TypeError(f"there is no option {name}")
         if name not in LIMITS:
             if not isinstance(value, bool):
@@ -104,11 +60,18 @@ def check_options(file: pathlib.Path, options: Mapping[str, int | bool | None]) 
             least, most = LIMITS[name]
             if not least <= value <= most:
                 raise ValueError(f"{name} is from {least} to {most}, not {value}")
-    if options["frames"] is not None and file.suffix != ".bench":
-        raise ValueError("frames is for a netlist (.bench)")
-    given = {name for name, value in options.items() if value is not None and value is not False}
-    if "health" in given and given - {"health", "sessions", "narrow"}:
-        raise ValueError("of the options a graph takes sessions alone")
+
+
+def words_of(path: str, health: int | None, options: Mapping[str, int | bool | None]) -> list[str]:
+    """The words that start a service of a device, or of a graph. Raises ValueError if they are no form."""
+    if health is None and path.endswith(".nnf"):
+        raise ValueError(f"{path}: a graph (.nnf) needs health=N, the number of its parts")
+    words = ["serve", path] if health is None else ["ask", path, str(health)]
+    # A graph is compiled already, and stays as it is with `narrow` or without.
+    words += option_words(options if health is None else {**options, "narrow": False})
+    if fault := next(hints.faults_of_words(words), ""):
+        raise ValueError(f"{shown(path)}: {fault}")
+    return words
 
 
 def check_timeout(timeout: float | None) -> None:
@@ -123,44 +86,13 @@ def check_timeout(timeout: float | None) -> None:
 
 def explained(ended: Ended, file: pathlib.Path) -> Exception:
     """Why a program ended before it was ready, with what to try; an OSError if this file cannot be read here."""
-    hint = ""
     if ended.status == 4 and ended.last_line == "error: read":
         try:
             file.open("rb").close()
         except OSError as error:
             return error
-    elif ended.status == 3:
-        tried = [] if "--narrow" in ended.words else ["narrow=True"]
-        tried += [] if str(LIMITS["budget"][1]) in ended.words else [f"budget={LIMITS['budget'][1]}"]
-        hint = f"try {', then '.join(tried)}" if tried else "the device is too wide to be compiled"
-    elif "fault 5 sequential" in ended.last_line:
-        hint = "the netlist has flip-flops: give frames=N, the number of clock periods that are seen"
-    elif ended.status == 1 and (fault := FAULT.match(ended.last_line)):
-        hint = looks_like(file, int(fault[1]))
+    hint = hints.hint(ended.status, ended.last_line, ended.words, file) if ended.status in (1, 3) else ""
     return Ended(ended.words, ended.status, ended.last_line, ended.said, hint)
-
-
-def looks_like(file: pathlib.Path, number: int) -> str:
-    """What is in a line of a file, counted from 1; before that, which mark the file begins with that some editors put there."""
-    try:
-        # A pipe is read already, and would be waited for.
-        if not file.is_file():
-            return ""
-        with file.open("rb") as data:
-            begin = data.read(max(map(len, MARKS)))
-            for mark, text in MARKS.items():
-                if begin.startswith(mark):
-                    return text
-            data.seek(0)
-            left = number - 1
-            while left > 0 and (piece := data.readline(PIECE)):
-                left -= piece.endswith(b"\n")
-            line = data.readline(PIECE)
-    except OSError:
-        return ""
-    if left or not line:
-        return ""
-    return f"line {number} is `{shown(line.decode('utf-8', 'replace').strip())}`"
 
 
 class Service:
@@ -205,15 +137,12 @@ class Service:
         self.file = pathlib.Path(file)
         self.frames = frames
         options = {"narrow": narrow, "budget": budget, "sessions": sessions, "frames": frames, "levels": levels, "least": least}
-        check_options(self.file, {**options, "health": health})
+        check_options({**options, "health": health})
         check_timeout(timeout)
+        asked = words_of(os.fspath(file), health, options)
         start = find_program() if program is None else program
         words = [os.fspath(start)] if isinstance(start, (str, os.PathLike)) else [os.fspath(word) for word in start]
-        if health is None:
-            words += ["serve", os.fspath(file), *option_words(options)]
-        else:
-            words += ["ask", os.fspath(file), str(health), *option_words({"sessions": sessions})]
-        self._words = words
+        self._words = [*words, *asked]
         self._timeout = timeout
         self._numbers = itertools.count(1)
         self._given: set[str] = set()

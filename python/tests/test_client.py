@@ -14,7 +14,7 @@ from unittest import mock
 from support import C17, EXAMPLES, needs_program, replies, stand_in
 
 from diag_client import (
-    Blame, Diagnosis, Ended, Inconsistent, Level, Minimum, NotBuilt, Probe, Refused, Service, Verdict, find_program, service,
+    Blame, Diagnosis, Ended, Inconsistent, Level, Minimum, NotBuilt, Probe, Refused, Service, Verdict, find_program, program,
 )
 from diag_client.case import SESSION_NAME
 
@@ -419,13 +419,13 @@ class Services(unittest.TestCase):
             top = pathlib.Path(top)
             del os.environ["DIAG_PROGRAM"]
             os.environ["PATH"] = f"{top}/path"
-            with mock.patch.object(service, "TOP", top), mock.patch.object(service, "PACKED", top / "bin/diag"):
+            with mock.patch.multiple(program, TOP=top, PACKED=top / "bin/diag", installed_from=lambda: None):
                 with self.assertRaisesRegex(NotBuilt, "DIAG_PROGRAM"):
                     find_program()
                 self.write(top / "path/diag", "")
                 self.assertEqual(find_program(), f"{top}/path/diag")
                 self.write(top / "diag", "exit 1")
-                with self.assertRaisesRegex(NotBuilt, "is not built.*diag --build"):
+                with self.assertRaisesRegex(NotBuilt, "is not built.*diag --build.* 20 minutes .*DIAG_PROGRAM"):
                     find_program()
                 self.write(top / "crates/diag/out/diag", "")
                 with self.assertRaisesRegex(NotBuilt, "from these sources.*diag --build"):

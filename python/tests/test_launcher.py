@@ -1,5 +1,6 @@
 """The launcher `diag`: what it says itself, when it takes the program for current, and that it is not noticed when it runs it."""
 
+import contextlib
 import os
 import pathlib
 import re
@@ -10,8 +11,8 @@ import tempfile
 import unittest
 from unittest import mock
 
-from checkout import FAKE_PROGRAM, FAKE_RT, make_checkout, put_program, wait_past
-from support import EXAMPLES, SOON, TOP, wait_until
+from checkout import FAKE_PROGRAM, FAKE_RT, leave_program, make_checkout, put_program, wait_past
+from support import C17, EXAMPLES, PROGRAM, SOON, TOP, needs_program, wait_until
 
 HELP = (TOP / "python/diag_client/help.txt").read_text()
 SETPRIV = pathlib.Path("/usr/bin/setpriv")
@@ -50,10 +51,13 @@ class InCheckout(unittest.TestCase):
         self.assertEqual((status, told), (0, f"{(top or self.top).resolve()}/crates/diag/out/diag\n") if not status else (1, ""))
         return status == 0, said
 
-    def wait_past(self, name):
-        """Waits until what is written now is newer than a file beside the program."""
-        out = self.top / "crates/diag/out"
-        wait_past(out, out / name)
+    def without_tee(self):
+        """A path to tools, of which one writes no file, as if the disk were full."""
+        tools = self.elsewhere / "full"
+        tools.mkdir()
+        (tools / "tee").write_text("#!/bin/sh\ncat\nexit 1\n")
+        (tools / "tee").chmod(0o755)
+        return f"{tools}:{os.environ['PATH']}"
 
 
 class Says(InCheckout):
@@ -65,11 +69,11 @@ class Says(InCheckout):
         self.assertEqual(self.run_diag(), (2, "", HELP))
 
     def test_version(self):
-        """By the times of the files a program that was copied here looks as one that was built here."""
+        """Of a program that `rt ci` left no more is known than the times of the files say."""
         for _ in range(2):
             told = self.run_diag("--version")[1].splitlines()
             self.assertEqual(told[0], "diag, commit unknown")
-            self.assertEqual(told[1:], ["by the times of the files the program is built from these sources; `diag --build` makes sure, and proves it"])
+            self.assertEqual(told[1:], ["by the times of its files `rt ci` proved and built the program from these sources; `diag --build` makes sure"])
 
     @unittest.skipUnless(shutil.which("git"), "there is no git")
     def test_version_in_a_repository(self):
@@ -83,44 +87,46 @@ class Says(InCheckout):
         self.assertRegex(self.run_diag("--version")[1], r"^diag, commit [0-9a-f]+ of 2026-11-05\n")
         (self.top / "crates.txt").write_text("diag: low\n")
         _, told, _ = self.run_diag("--version")
-        self.assertRegex(told, r"^diag, commit [0-9a-f]+ of 2026-11-05, changed since\nthe program is not known to be built from these")
+        self.assertRegex(told, r"^diag, commit [0-9a-f]+ of 2026-11-05, changed since\nthe program is not built from these sources")
         # Without it, it is the commit that was noted with the checksums.
         shutil.rmtree(self.top / ".git")
         self.assertRegex(self.run_diag("--version")[1], r"^diag, commit [0-9a-f]+ of 2026-11-05\n")
 
 
 class IsCurrent(InCheckout):
-    """By checksums."""
+    """By the checksums of one record, which are compared each time. `rt ci` leaves none: then the launcher looks once at what it left."""
 
     def test_after_the_gate(self):
-        """The gate leaves a program and no checksum: the times decide once."""
-        is_current, said = self.is_current()
-        self.assertTrue(is_current)
-        self.assertIn("no checksum", said)
-        self.assertEqual(self.is_current(), (True, ""))
-        record = (self.top / "crates/diag/out/diag.sources").read_text()
-        self.assertRegex(record, r"\Asources [0-9a-f]{64}\nprogram [0-9a-f]{64}\nknown by times\nfile [0-9]+:[0-9]+ of [0-9.]+\n\Z")
+        for _ in range(2):
+            self.assertEqual(self.is_current(), (True, ""))
+            record = (self.top / "crates/diag/out/diag.sources").read_text()
+            self.assertRegex(record, r"\Asources [0-9a-f]{64}\nprogram [0-9a-f]{64}\nby rt ci\n\Z")
 
-    def test_program_from_elsewhere(self):
-        (self.top / "crates/diag/out/stdout").unlink()
-        self.assertEqual(self.is_current(), (False, ""))
-
-    def test_program_copied_after_the_gate(self):
-        self.wait_past("stdout")
-        put_program(self.top, FAKE_PROGRAM)
-        self.assertEqual(self.is_current(), (False, ""))
-
-    def test_source_after_the_gate(self):
-        self.wait_past("diag")
-        (self.top / "crates/low/src/lib.rt").touch()
-        self.assertEqual(self.is_current(), (False, ""))
+    def test_not_left_by_the_gate(self):
+        """A program that was copied there, before the gate ran both or after it, and one that does not answer the stored run."""
+        out = self.top / "crates/diag/out"
+        for change in (
+            lambda: (out / "stdout.by-rattle").unlink(),
+            lambda: (out / "diag.by-rattle").unlink(),
+            lambda: (wait_past(out, out / "diag.by-rattle"), put_program(self.top, FAKE_PROGRAM)),
+            # `rt ci diag` works on a copy, and leaves here what its programs wrote.
+            lambda: (wait_past(out, out / "diag.by-rattle"), put_program(self.top, FAKE_PROGRAM), (out / "stdout.by-rattle").touch()),
+            lambda: (wait_past(out, out / "diag.by-rattle"), put_program(self.top, pathlib.Path("/bin/true")), (out / "stdout").touch()),
+            lambda: leave_program(self.top, pathlib.Path("/bin/true")),
+            lambda: (wait_past(out, out / "diag"), (self.top / "crates/low/src/lib.rt").touch()),
+            lambda: (wait_past(out, out / "diag"), (self.top / "crates/low/specs/Low.antt").unlink()),
+        ):
+            with self.subTest():
+                leave_program(self.top, FAKE_PROGRAM)
+                change()
+                self.assertEqual(self.is_current(), (False, ""))
 
     def test_changes(self):
         self.is_current()
         source = self.top / "crates/low/specs/Low.antt"
         for change, wanted in (
             (lambda: source.touch(), True),
-            (lambda: (source.write_text("high\n"), os.utime(source, (1, 1))), False),
+            (lambda: (source.write_text("lox\n"), os.utime(source, (1, 1))), False),
             (lambda: source.write_text("low\n"), True),
             (lambda: (self.top / "crates/diag_tests/src/lib.rt").write_text(""), True),
             (lambda: (self.top / "crates/low/proofs").mkdir(), True),
@@ -130,117 +136,66 @@ class IsCurrent(InCheckout):
             (lambda: (self.top / "HANDLES").write_text("Handles allowed: none.\n"), True),
             (lambda: (self.top / "crates/low").rename(self.top / "crates/lower"), False),
             (lambda: (self.top / "crates/lower").rename(self.top / "crates/low"), True),
-            (lambda: put_program(self.top, "#!/bin/sh\n"), False),
+            (lambda: put_program(self.top, pathlib.Path("/bin/true")), False),
+            (lambda: put_program(self.top, FAKE_PROGRAM), True),
         ):
-            self.wait_past("diag.sources")
             change()
-            self.assertEqual(self.is_current()[0], wanted)
-
-    def test_nothing_is_compared_twice(self):
-        """If nothing has changed since then, no checksum is made."""
-        self.is_current()
-        path = f"{failing(self.elsewhere / 'sha256sum').parent}:{os.environ['PATH']}"
-        self.assertEqual(self.run_diag("--path", PATH=path)[0], 0)
-        self.wait_past("diag.sources")
-        (self.top / "crates.txt").touch()
-        self.assertEqual(self.run_diag("--path", PATH=path)[0], 1)
+            self.assertEqual(self.is_current(), (wanted, ""))
 
     def test_copies(self):
+        """The record goes with them, and says the same of the same files."""
         self.is_current()
         for words in (["cp", "-r"], ["cp", "-a"]):
-            copy = self.elsewhere / f"copy{words[1]}"
+            copy = self.elsewhere / f"[a] *{words[1]}"
             subprocess.run([*words, str(self.top), str(copy)], check=True)
             self.assertEqual(self.is_current(copy), (True, ""))
             (copy / "crates/low/src/lib.rt").write_text("fn other() {}\n")
-            os.utime(copy / "crates/low/src/lib.rt", (1, 1))
             self.assertEqual(self.is_current(copy), (False, ""))
 
-    def test_folder_from_elsewhere(self):
-        """A record that came with its program is newer than all sources, and all the same they are compared."""
-        self.is_current()
-        for text, wanted in (("fn low() {}\n", True), ("fn other() {}\n", False)):
-            other = self.elsewhere / f"other{wanted}"
-            other.mkdir()
-            make_checkout(other)
-            (other / "crates/low/src/lib.rt").write_text(text)
-            out = other / "crates/diag/out"
-            shutil.copytree(self.top / "crates/diag/out", out)
-            wait_past(out, out / "diag")
-            (out / "diag.sources").touch()
-            self.assertEqual(self.is_current(other), (wanted, ""))
-
-    def test_record_put_back(self):
-        """A record that is copied onto itself, or touched, is newer than all sources, and all the same they are compared."""
-        self.is_current()
-        record = self.top / "crates/diag/out/diag.sources"
-        kept = record.read_text()
-        (self.top / "crates/low/src/lib.rt").write_text("fn other() {}\n")
-        for change in (lambda: record.write_text(kept), record.touch):
-            self.wait_past("../../low/src/lib.rt")
-            change()
-            self.assertEqual(self.is_current(), (False, ""))
-
     def test_many_at_once(self):
-        """Each compares the checksums and writes the record, and none reads one that another has begun."""
-        self.is_current()
+        """Each writes the record, and none reads one that another has begun."""
         out = self.top / "crates/diag/out"
         for _ in range(5):
-            self.wait_past("diag.sources")
-            (self.top / "crates/low/src/lib.rt").touch()
+            (out / "diag.sources").unlink(missing_ok=True)
             runs = [subprocess.Popen([self.top / "diag", "--path"], stdout=subprocess.DEVNULL) for _ in range(8)]
             self.assertEqual([run.wait() for run in runs], [0] * len(runs))
-        self.assertEqual(sorted(os.listdir(out)), ["diag", "diag.sources", "stdout"])
+        self.assertEqual(sorted(os.listdir(out)), ["diag", "diag.by-rattle", "diag.sources", "stdout", "stdout.by-rattle"])
 
-    def test_signs_in_the_path(self):
-        """Those that a pattern is made of stand for themselves: what is beside the program is no source."""
-        copy = self.elsewhere / "[a] *"
-        shutil.copytree(self.top, copy)
-        out = copy / "crates/diag/out"
-        wait_past(out, out / "stdout")
-        put_program(copy, FAKE_PROGRAM)
-        wait_past(out, out / "diag")
-        (out / "stdout").touch()
-        self.assertEqual(self.is_current(copy)[0], True)
+    def test_record_that_cannot_be_written(self):
+        """The program is current all the same."""
+        self.assertEqual(self.run_diag("--path", PATH=self.without_tee())[0], 0)
+        self.assertEqual(sorted(os.listdir(self.top / "crates/diag/out")), ["diag", "diag.by-rattle", "stdout", "stdout.by-rattle"])
 
 
 class Hints(InCheckout):
-    """One line on standard error after a status from 1 to 5, and nothing else but what the program says."""
+    """One line on standard error after a status from 1 to 5, and nothing else but what the program says. test_hints has what it says."""
+
+    def setUp(self):
+        super().setUp()
+        self.is_current()
 
     def test_hints(self):
-        files = {
-            "bom.bench": b"\xef\xbb\xbfINPUT(a)\n", "flops.bench": b"INPUT(a)\nq = dff(a)\n", "abc.bench": b"INPUT(a)\nq = LUT 0x1 ( a )\n",
-            "plain.bench": b"INPUT(a)\n", "plain.nnf": b"nnf 1 0 1\nA 0\n", "wide.bench": "INPUT(a)\n".encode("utf-16"),
-        }
-        for name, data in files.items():
-            (self.elsewhere / name).write_bytes(data)
-        for words, status, why in (
-            ("serve bom.bench", 1, "byte order mark"), ("serve flops.bench", 1, "--frames N"), ("plan flops.bench", 1, "--frames N"),
-            ("serve abc.bench", 1, "diag-netlist"), ("serve plain.bench --least", 1, "leave out --least"), ("serve plain.bench", 1, "last line"),
-            ("check plain.nnf", 1, "last line"), ("serve plain.bench", 3, "try --narrow, then --budget 8388608 too"),
-            ("serve plain.bench --narrow", 3, "try --budget 8388608 too"), ("plan plain.bench", 3, "try --narrow, which"),
-            ("serve plain.bench --budget 8388608 --narrow", 3, "a smaller piece"), ("plan plain.bench --narrow", 3, "a smaller piece"),
-            ("serve no.bench", 4, "there is no file no.bench"), ("serve .", 4, ". is a folder"), ("serve --narrow plain.bench", 2, "FILE --narrow"),
-            ("--narrow serve plain.bench", 2, "options come after the file"), ("srve plain.bench", 2, "no form `srve`"), ("serve plain.txt", 2, ".bench or .dev;"),
-            ("plan /dev/stdin", 2, ".bench or .dev;"), ("plan x.blif", 2, "`diag-netlist x.blif` makes one"), ("check x.json", 2, "ends in .nnf;"),
-            ("serve", 2, ".bench or .dev;"), ("check plain.bench", 2, ".nnf"), ("ask plain.nnf", 2, "comes HEALTH: `diag ask FILE HEALTH`"), ("ask plain.nnf --sessions 2", 2, "comes HEALTH"),
-            ("ask plain.nnf 4097", 2, "HEALTH is a number from 0 to 4096, without leading zeros"), ("ask plain.nnf 02", 2, "without leading zeros"),
-            ("ask plain.nnf 99999999999999999999", 2, "HEALTH is a number"), ("ask plain.nnf 4096 --wide", 2, "`ask` takes no `--wide`"),
-            ("ask plain.nnf 0 --narrow", 2, "`ask` takes no `--narrow`"), ("-v", 2, "there is no form `-v`"),
-            ("load 801", 2, "from 1 to 800"), ("serve plain.bench --wide", 2, "`serve` takes no `--wide`"), ("plan x.v", 2, "how to make one of Verilog"),
-            ("check plain.nnf x", 2, "`check` takes no `x`"), ("plan plain.bench --frames 2", 2, "`plan` takes no `--frames`"),
-            ("compile plain.bench --budget 2 --levels 2", 2, "`compile` takes no `--levels`"), ("serve plain.bench --levels=3", 2, "a blank, and no ="),
-            ("serve plain.bench --least --budget 2 --least", 2, "`--least` is given twice"), ("serve x.dev --frames 2", 2, "is for a netlist"),
-            ("serve plain.bench --frames 65", 2, "after `--frames` comes a number from 1 to 64"), ("serve plain.bench --budget", 2, "from 1 to 8388608"),
-            ("serve plain.bench --levels 08 --least", 2, "from 0 to 4096000"), ("ask plain.nnf 3 --sessions 0", 2, "from 1 to 1024"),
-            (b"plan caf\xe9.bench", 2, "is not UTF-8"), ("plan wide.bench", 1, "iconv -f UTF-16 -t UTF-8 wide.bench"),
+        (self.elsewhere / "any.bench").write_text("INPUT(a)\ny = MAJ(a)\n")
+        fault = "error: line 2: fault 3 kind"
+        for words, status, line, why in (
+            ("serve any.bench", 1, fault, "line 2, column 5: `MAJ` in `y = MAJ(a)`"), ("serve any.bench", 1, "error: other", "README.md"),
+            ("serve any.bench", 3, "", "try --narrow, then --budget 8388608"), ("serve no.bench", 4, "", "there is no file no.bench"),
+            ("serve any.bench --wide", 2, "", "`serve` takes no `--wide`; `diag --help` shows all forms"),
         ):
-            got, told, said = self.run_diag(*words.split(), FAKE=str(status))
-            said = said.replace(said.partition("diag: no checksum")[1] and said.split("\n")[0] + "\n", "")
-            self.assertEqual((got, told, said.count("\n")), (status, "told\n", 1), (words, said))
+            got, told, said = self.run_diag(*words.split(), FAKE=str(status), FAKE_LINE=line)
+            self.assertEqual((got, told, said.count("\n")), (status, f"{line}\n", 1), (words, said))
             self.assertIn(why, said, words)
 
+    def test_without_python(self):
+        """What is said then is the same for all."""
+        self.assertIn("README.md", self.run_diag("plan", "no.bench", FAKE="4", PATH=f"{failing(self.elsewhere / 'python3').parent}:{os.environ['PATH']}")[2])
+
+    def test_own_modules_alone(self):
+        """What lies in the folder of the user is not run."""
+        (self.elsewhere / "re.py").write_text("print('mine')\n")
+        self.assertIn("there is no file", self.run_diag("plan", "no.bench", FAKE="4")[2])
+
     def test_full_disk(self):
-        self.is_current()
         with open("/dev/full", "w") as full:
             words = [self.top / "diag", "serve", "x.bench"]
             done = subprocess.run(words, stdout=full, stderr=subprocess.PIPE, text=True, env={**os.environ, "FAKE": "5"})
@@ -249,7 +204,6 @@ class Hints(InCheckout):
 
     def test_none(self):
         """Of a failed write nothing is said if the output is a pipe: who reads has had enough."""
-        self.is_current()
         for status in (0, 5, 6, 7):
             self.assertEqual(self.run_diag("serve", "x.bench", FAKE=str(status)), (status, "told\n", ""))
 
@@ -307,19 +261,69 @@ class Passes(InCheckout):
             self.assertEqual(self.run_diag("serve", "x.bench", FAKE=name), (-getattr(signal, f"SIG{name}"), "", ""))
 
 
-class Builds(InCheckout):
-    """`--build` leaves proofs to the kit, and says how far it is."""
+class WithKit(InCheckout):
+    """There is a kit, which only pretends, and no program yet."""
 
     program = None
 
     def with_kit(self, **variables):
-        """What a build finds around it: a kit that only pretends."""
+        """What the launcher finds around it."""
         tools = self.elsewhere / "tools"
         tools.mkdir(exist_ok=True)
         (tools / "rt").write_text(FAKE_RT)
         (tools / "rt").chmod(0o755)
         self.said_to_rt = self.elsewhere / "said"
         return {"PATH": f"{tools}:{os.environ['PATH']}", "RT_SAID": str(self.said_to_rt), "RT_PROGRAM": FAKE_PROGRAM, **variables}
+
+
+class Unproved(WithKit):
+    """Without a program the kit runs the sources."""
+
+    def run_unproved(self, words, ends, **variables):
+        return self.run_diag(*words.split(), **self.with_kit(RT_ENDS=ends, **variables))
+
+    def test_ends(self):
+        """As the program does, with the same hints; 125 is of the kit alone, whose own status means something else."""
+        (self.elsewhere / "any.bench").write_text("INPUT(a)\ny = MAJ(a)\n")
+        fault = "error: line 2: fault 3 kind"
+        for ends, line, status, why in (
+            ("run=ended status=0 runners=1 proved=no", "ready 1 1", 0, "are run unproved"),
+            ("run=ended status=1 runners=1 proved=no", fault, 1, "line 2, column 5: `MAJ` in `y = MAJ(a)`"),
+            ("run=ended status=6 runners=1 proved=no", "error: memory", 6, "are run unproved"),
+            ("run=no-answer proved=no", "", 125, "checked: said\nrun=no-answer proved=no\ndiag: the kit stopped the run before its end"),
+        ):
+            got, told, said = self.run_unproved("serve any.bench --narrow", ends, RT_WRITES=line)
+            self.assertEqual((got, told), (status, f"{line}\n" if status < 125 else ""), said)
+            self.assertIn(why, said)
+            self.assertEqual("run=" in said, status == 125)
+        given = f"--data given.bench={self.elsewhere}/any.bench -- serve given.bench --narrow"
+        self.assertIn(f"{self.top}/crates/diag: rt try --seconds 50 {given}\n", self.said_to_rt.read_text())
+
+    def test_at_once(self):
+        """What the words decide, and a file that is not there, waits for no kit."""
+        for words, line, status, why in (
+            ("plan nofile", "error: usage", 2, "ends in .bench or .dev"), ("plan any.bench --wide", "error: usage", 2, "takes no `--wide`"),
+            ("plan any.bench", "error: read", 4, "there is no file any.bench"), ("load 801", "error: usage", 2, "from 1 to 800"),
+        ):
+            got, told, said = self.run_unproved(words, "")
+            self.assertEqual((got, told, said.count("\n")), (status, f"{line}\n", 1), said)
+            self.assertIn(why, said)
+        self.assertFalse(self.said_to_rt.exists())
+        # Without a Python the program says it.
+        with mock.patch.dict(os.environ, PATH=f"{failing(self.elsewhere / 'python3').parent}:{os.environ['PATH']}"):
+            got, told, _ = self.run_unproved("plan", "run=ended status=2 runners=1 proved=no", RT_WRITES="error: usage")
+        self.assertEqual((got, told), (2, "error: usage\n"))
+
+    def test_full_disk(self):
+        env = {**os.environ, **self.with_kit(RT_ENDS="run=ended status=0 runners=1 proved=no")}
+        with open("/dev/full", "w") as full:
+            done = subprocess.run([self.top / "diag", "load", "1"], stdout=full, stderr=subprocess.PIPE, text=True, env=env)
+        self.assertEqual(done.returncode, 5)
+        self.assertIn("is the disk full?", done.stderr)
+
+
+class Builds(WithKit):
+    """`--build` leaves proofs to the kit, and says how far it is."""
 
     def build(self, **variables):
         return self.run_diag("--build", **self.with_kit(**variables))
@@ -332,7 +336,8 @@ class Builds(InCheckout):
             said = [build.stderr.readline() for _ in range(2)]
             goes_on.touch()
             build.stderr.read()
-        self.assertEqual((build.returncode, said[1]), (0, "diag: proving low; 0 of 2 crates are done, 2 left\n"))
+        self.assertEqual((build.returncode, said[1]), (0, "diag: low is done; 1 of 2 crates to go\n"))
+        self.assertIn("about 20 minutes", said[0])
 
     def test_build(self):
         status, told, said = self.build()
@@ -344,15 +349,18 @@ class Builds(InCheckout):
         self.assertIn("\nthe program is proved and built from these sources\n", self.run_diag("--version")[1])
         self.assertIn("is built from these sources already\n", self.build()[2])
         # A program of the gate is built again.
-        self.wait_past("diag.sources")
-        put_program(self.top, "#!/bin/sh\n")
-        self.wait_past("diag")
-        (folder / "out/stdout").touch()
+        leave_program(self.top, FAKE_PROGRAM)
         self.assertTrue(self.is_current()[0])
         self.assertIn("all is proved; compiling the program\n", self.build()[2])
 
+    def test_no_record(self):
+        """A build that cannot be noted says so."""
+        with mock.patch.dict(os.environ, PATH=self.without_tee()):
+            status, _, said = self.build()
+        self.assertEqual((status, said.splitlines()[-1]), (1, f"diag: {self.top}/crates/diag/out/diag.sources cannot be written"))
+
     def test_nothing_follows(self):
-        """A file after it is a mistake, and half an hour would be lost."""
+        """A file after it is a mistake, and 20 minutes would be lost."""
         self.assertEqual(self.run_diag("--build", "c17.bench"), (2, "", "diag: nothing follows `--build`\n"))
 
     def test_not_proved(self):
@@ -363,8 +371,53 @@ class Builds(InCheckout):
 
     @unittest.skipIf(shutil.which("rt", path="/usr/bin:/bin"), "the kit is where the tools of the system are")
     def test_no_kit(self):
-        status, _, said = self.run_diag("--build", PATH="/usr/bin:/bin")
-        self.assertEqual((status, said), (127, "diag: the kit's command `rt` is not on this machine\n"))
+        for words in ("--build", "load 1"):
+            status, _, said = self.run_diag(*words.split(), PATH="/usr/bin:/bin")
+            self.assertEqual((status, said), (127, "diag: the kit's command `rt` is not on this machine\n"))
+
+
+@needs_program
+class RefusedLines(InCheckout):
+    """Somebody at a terminal learns which lines of a script in a file were refused, and whoever keeps the replies can ask."""
+
+    SCRIPT = "# a comment\nopen S\nsee S 99=1\nlist S 3\ndance\n"
+    SAID = ["line 3 of the script: no wire: 99 in `see S 99=1`", "line 5 of the script: unknown command: dance"]
+
+    program = pathlib.Path(PROGRAM)
+
+    def setUp(self):
+        super().setUp()
+        self.script = self.elsewhere / "any.script"
+        self.script.write_text(self.SCRIPT)
+
+    def at_terminal(self, *words):
+        """What a terminal shows, and the status."""
+        main, terminal = os.openpty()
+        with open(self.script) as script, open(main, "rb", buffering=0) as shown:
+            child = subprocess.Popen([self.top / "diag", *words], stdin=script, stdout=terminal, stderr=terminal, start_new_session=True)
+            os.close(terminal)
+            text = b""
+            # At its end a terminal fails.
+            with contextlib.suppress(OSError):
+                while piece := shown.read(4096):
+                    text += piece
+            return text.decode().replace("\r\n", "\n"), child.wait(SOON)
+
+    def test_at_terminal(self):
+        told, status = self.at_terminal("serve", C17)
+        plain = subprocess.run([PROGRAM, "serve", C17], input=self.SCRIPT, capture_output=True, text=True).stdout
+        wait = f"diag: working on {C17}, which may take some seconds\n"
+        self.assertEqual((told, status), (wait + plain + "".join(f"diag: {line}\n" for line in self.SAID), 0))
+
+    def test_replies_that_were_kept(self):
+        replies = self.elsewhere / "replies"
+        replies.write_text(self.run_diag("serve", C17, text=self.SCRIPT)[1])
+        self.assertEqual(self.run_diag("--refused", self.script, replies), (1, "".join(f"{line}\n" for line in self.SAID), ""))
+        self.script.write_text("open S\nmin S\n")
+        replies.write_text("ready 6 11\nS open\nS min 0\n")
+        self.assertEqual(self.run_diag("--refused", self.script, replies), (0, "", ""))
+        self.assertEqual(self.run_diag("--refused", self.script)[0], 2)
+        self.assertEqual(self.run_diag("--refused", self.script, "none"), (4, "", "diag: none: no such file or directory\n"))
 
 
 class QuickCheck(unittest.TestCase):

@@ -306,27 +306,10 @@ class Options(unittest.TestCase):
         self.assertIn("too wide", self.refusal("error: sum above 8388608", 3, budget=8388608))
         self.assertIn("give frames=N", self.refusal("error: line 9: fault 5 sequential", 1))
 
-    def test_byte_order_mark(self):
-        with self.temporary(b"\xef\xbb\xbfINPUT(a)\n") as file:
-            self.assertIn("byte order mark", self.refusal("error: line 1: fault 1 line", 1, file=file))
-        with self.temporary("INPUT(a)\n".encode("utf-16")) as file:
-            self.assertIn("the file is in UTF-16", self.refusal("error: line 1: fault 1 line", 1, file=file))
-
     def test_line_with_a_fault(self):
-        """It is shown, unless it is very long."""
-        with self.temporary(b"INPUT[a]\r\n y = AND(a\n" + b"x" * 61 + b"\n") as file:
-            for number, shown in ((1, "; line 1 is `INPUT[a]`"), (2, "; line 2 is `y = AND(a`"), (3, f"; line 3 is `{'x' * 60}...`"), (0, "fault 1 line"), (9, "fault 1 line")):
-                self.assertTrue(self.refusal(f"error: line {number}: fault 1 line", 1, file=file).endswith(shown))
-            file.unlink()
-            os.mkfifo(file)
-            self.assertTrue(self.refusal("error: line 1: fault 1 line", 1, file=file).endswith("fault 1 line"))
-
-    def test_no_more_is_read_than_the_line(self):
-        """What comes after it is not looked at, however large the file is, nor is more of a line kept than a piece."""
-        with self.temporary(b"INPUT(a)\nwrong\n") as file:
-            os.truncate(file, 1 << 36)
-            self.assertTrue(self.refusal("error: line 2: fault 1 line", 1, file=file).endswith("; line 2 is `wrong`"))
-            self.assertTrue(self.refusal("error: line 3: fault 1 line", 1, file=file).endswith(f"; line 3 is `{chr(0xfffd) * 60}...`"))
+        with self.temporary(b"y = AND(a\n") as file:
+            said = self.refusal("error: line 1: fault 1 line", 1, file=file)
+            self.assertTrue(said.endswith("; line 1, column 10: the end of `y = AND(a`"), said)
 
     def test_closed(self):
         """What was last answered is not why."""

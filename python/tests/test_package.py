@@ -1,5 +1,6 @@
 """The package installs, and the wheel with the program in it is all that a machine needs."""
 
+import functools
 import os
 import pathlib
 import re
@@ -10,7 +11,7 @@ import tempfile
 import tomllib
 import unittest
 
-from checkout import make_checkout
+from checkout import leave_program, make_checkout
 from support import C17, EXAMPLES, PROGRAM, TOP, needs_program
 
 import diag_client
@@ -30,6 +31,8 @@ PYTHON = next(
     None,
 )
 PAGE = TOP / "docs/PYTHON.md"
+# What is in the folder of the package, before and after it is installed.
+FILES = ["build-wheel", "diag_client", "pyproject.toml", "setup.py"]
 # A repair, from what its terminal shows on: the advice is taken, and after it the board is tried again.
 REPAIR = [
     ("list 9", "diag 10\ndiag 22\nend"),
@@ -86,45 +89,89 @@ class Skipped(unittest.TestCase):
 
 @needs_program
 @unittest.skipUnless(PYTHON, "there is no Python with setuptools, wheel, venv and pip")
-class Wheel(unittest.TestCase):
-    """`python/build-wheel`, from a checkout whose program is built."""
+class InEnvironment(unittest.TestCase):
+    """A checkout whose program is built, and an environment into which the package is installed, without a network."""
 
     def setUp(self):
         self.folder = pathlib.Path(self.enterContext(tempfile.TemporaryDirectory()))
+        self.top = self.folder / "top"
+        self.top.mkdir()
+        make_checkout(self.top, pathlib.Path(PROGRAM))
 
-    def test_wheel_alone(self):
-        top = self.folder / "top"
-        top.mkdir()
-        make_checkout(top, pathlib.Path(PROGRAM))
-        env = {**os.environ, "PATH": f"{os.path.dirname(PYTHON)}:{os.environ['PATH']}"}
-        built = subprocess.run([top / "python/build-wheel", self.folder / "wheels"], capture_output=True, text=True, env=env)
-        self.assertEqual(built.returncode, 0, built.stderr)
-        wheel = built.stdout.strip()
-        self.assertRegex(wheel, r"/wheels/diag_client-[0-9.]+-py3-none-linux_\w+\.whl$")
-        self.assertEqual(sorted(os.listdir(top / "python")), ["build-wheel", "diag_client", "pyproject.toml"])
-        shutil.rmtree(top)
-        self.install(wheel)
-        self.use()
-        self.repair()
+    def make_environment(self, *words):
+        self.run_plain(PYTHON, "-m", "venv", "--without-pip", *words, self.folder / "env")
 
-    def install(self, wheel):
-        """Into a new environment, without an index."""
-        fresh = self.folder / "env"
-        install = [PYTHON, "-m", "pip", "--python", fresh / "bin/python", "install", "-q", "--no-index", "--disable-pip-version-check", wheel]
-        for words in ([PYTHON, "-m", "venv", "--without-pip", fresh], install):
-            done = subprocess.run(words, capture_output=True, text=True, env={**self.plain(), "PIP_CONFIG_FILE": os.devnull})
-            self.assertEqual(done.returncode, 0, done.stderr)
+    def install(self, *words):
+        pip = [PYTHON, "-m", "pip", "--python", self.folder / "env/bin/python", "install", "-q", "--no-index", "--disable-pip-version-check"]
+        self.run_plain(*pip, *words)
+
+    def run_plain(self, *words):
+        done = subprocess.run(words, capture_output=True, text=True, env={**self.plain(), "PIP_CONFIG_FILE": os.devnull})
+        self.assertEqual(done.returncode, 0, done.stderr)
 
     def plain(self):
         """An environment with nothing but a plain path."""
         return {"PATH": "/usr/bin:/bin", "HOME": str(self.folder)}
 
+    def ask_tool(self, name, *words, text=""):
+        """How a command of the new environment ends, and what it writes."""
+        words = [self.folder / "env/bin" / name, *words]
+        return subprocess.run(words, input=text, capture_output=True, text=True, cwd=self.folder, env=self.plain())
+
     def run_tool(self, name, *words, text=""):
         """What a command of the new environment prints."""
-        words = [self.folder / "env/bin" / name, *words]
-        done = subprocess.run(words, input=text, capture_output=True, text=True, cwd=self.folder, env=self.plain())
+        done = self.ask_tool(name, *words, text=text)
         self.assertEqual((done.returncode, done.stderr), (0, ""), done.stdout)
         return done.stdout
+
+
+class Installed(InEnvironment):
+    """`pip install` of the folder, as the page says it for a machine without a network."""
+
+    def setUp(self):
+        super().setUp()
+        self.make_environment("--system-site-packages")
+
+    def install_folder(self):
+        self.install("--no-build-isolation", self.top / "python")
+        self.assertEqual(sorted(os.listdir(self.top / "python")), FILES)
+
+    def test_finds_the_checkout(self):
+        self.install_folder()
+        ask = functools.partial(self.ask_tool, "diag-shell", C17, text="min\n")
+        self.assertEqual(ask().stdout, "min 0\n")
+        (self.top / "crates/diag/out/diag").unlink()
+        begin, end = f"diag_client: it is not built: `{self.top}/diag --build` proves and builds it, ", "DIAG_PROGRAM names a program that was built elsewhere\n"
+        said = ask().stderr
+        self.assertEqual((said.startswith(begin), said.endswith(end), said.count("\n")), (True, True, 1), said)
+        shutil.rmtree(self.top)
+        self.assertRegex(ask().stderr, "^diag_client: there is no program `diag`: set DIAG_PROGRAM to the path of .*\n$")
+
+    def test_nothing_of_an_earlier_build(self):
+        module = self.top / "python/diag_client/gone.py"
+        module.touch()
+        self.install_folder()
+        module.unlink()
+        self.install("--force-reinstall", "--no-build-isolation", self.top / "python")
+        self.assertEqual(self.run_tool("python", "-c", "import importlib.util as util; print(util.find_spec('diag_client.gone'))"), "None\n")
+
+
+class Wheel(InEnvironment):
+    """`python/build-wheel`."""
+
+    def test_wheel_alone(self):
+        top = self.top
+        env = {**os.environ, "PATH": f"{os.path.dirname(PYTHON)}:{os.environ['PATH']}"}
+        built = subprocess.run([top / "python/build-wheel", self.folder / "wheels"], capture_output=True, text=True, env=env)
+        self.assertEqual(built.returncode, 0, built.stderr)
+        wheel = built.stdout.strip()
+        self.assertRegex(wheel, r"/wheels/diag_client-[0-9.]+-py3-none-linux_\w+\.whl$")
+        self.assertEqual(sorted(os.listdir(top / "python")), FILES)
+        shutil.rmtree(top)
+        self.make_environment()
+        self.install(wheel)
+        self.use()
+        self.repair()
 
     def use(self):
         """Its commands."""
@@ -144,15 +191,23 @@ class Wheel(unittest.TestCase):
         shown = re.search(r"Type \? for help\.\n(diag> .*?)```", PAGE.read_text(), re.DOTALL)[1]
         rows = [tuple(row.rstrip("\n").split("\n", 1)) for row in shown.split("diag> ")[1:]] + REPAIR
         # From a pipe the terminal says with its status that a line was refused: here the mistyped reading of the page.
-        words = [self.folder / "env/bin/diag-shell", "examples/c17.bench"]
-        done = subprocess.run(words, input="\n".join(typed for typed, _ in rows), capture_output=True, text=True, cwd=self.folder, env=self.plain())
+        done = self.ask_tool("diag-shell", "examples/c17.bench", text="\n".join(typed for typed, _ in rows))
         self.assertEqual((done.stdout, done.stderr, done.returncode), ("".join(f"{told}\n" for _, told in rows), "", 1))
 
-    def test_not_built(self):
-        make_checkout(self.folder)
-        done = subprocess.run([self.folder / "python/build-wheel"], capture_output=True, text=True)
-        self.assertEqual(done.returncode, 1)
-        self.assertIn("--build", done.stderr)
+    def test_none_is_made(self):
+        """Of a program that is not there, and of one that was copied there, be it with the record of another."""
+        for change in (
+            lambda: (self.top / "crates/diag/out/diag").unlink(),
+            lambda: leave_program(self.top, pathlib.Path("/bin/true")),
+            lambda: (leave_program(self.top, pathlib.Path(PROGRAM)), self.build(), shutil.copy("/bin/true", self.top / "crates/diag/out/diag")),
+        ):
+            change()
+            done = self.build()
+            self.assertEqual((done.returncode, done.stdout), (1, ""))
+            self.assertIn("--build", done.stderr)
+
+    def build(self):
+        return subprocess.run([self.top / "python/build-wheel", self.folder / "wheels"], capture_output=True, text=True)
 
 
 if __name__ == "__main__":

@@ -1,11 +1,13 @@
-"""The manual page, the completion and the tables of the pages say what the launcher's help says."""
+"""The help, the manual page, the completion and the tables of the pages say what the table of forms says."""
 
+import functools
 import os
 import pathlib
 import re
 import shlex
 import shutil
 import subprocess
+import sys
 import tempfile
 import unittest
 from unittest import mock
@@ -19,67 +21,105 @@ COMPLETION = TOP / "completions/diag.bash"
 PAGE = TOP / "docs/diag.1"
 
 
-class Help(unittest.TestCase):
-    """How the help text is read."""
+HELP = (TOP / "python/diag_client/help.txt").read_text()
+# What `docs/write-help` reads and writes.
+WRITTEN = ("docs/SCRIPT.md", "docs/diag.1", "README.md", "examples/c17.script", "examples/c17_commands.script", "completions/diag.bash")
 
-    def setUp(self):
-        self.text = subprocess.run([TOP / "diag", "--help"], capture_output=True, text=True, check=True).stdout
-        self.found = manual.read_help()
+
+class Table(unittest.TestCase):
+    """`forms.tsv`, from which the help and all else is made."""
 
     def test_nothing_is_lost(self):
-        entries = [entry for section in self.found for entry in section.entries]
-        entries += [option for entry in entries for option in entry.options]
-        said = " ".join([section.title for section in self.found] + [text for row in entries for text in (row.head, row.text, row.notes)])
-        self.assertEqual(sorted(said.replace(":", " ").split()), sorted(self.text.replace(":", " ").split()))
-
-    def test_each_entry_is_explained(self):
-        """Two blanks part what is explained from the explanation."""
-        for entry in [entry for section in self.found for entry in section.entries]:
-            self.assertTrue(entry.text, entry.head)
-            self.assertTrue(all(option.text for option in entry.options), entry.head)
+        """The help says the words of each row."""
+        said = " ".join(HELP.replace("`", "").split())
+        for kind in ("form", "option", "launcher", "status"):
+            for row in manual.rows(kind).values():
+                texts = [row.head] + ([] if "{" in row.text else [manual.plain(row.text), manual.plain(row.prints)])
+                texts += [str(number) for number in (row.least, row.most, row.default) if number is not None]
+                self.assertEqual([text for text in texts if text not in said], [], row)
 
     def test_commands(self):
         usages = manual.usages()
-        self.assertEqual(usages["see"].words, ("w=b",))
-        self.assertEqual(usages["after"].words, ("p1", "..", "pk"))
-        self.assertEqual(usages["min"].words, ())
+        self.assertEqual((usages["see"].words, usages["see"].choices), (("w=b",), "b is 0 or 1"))
+        self.assertEqual((usages["after"].words, usages["after"].choices), (("p1", "..", "pk"), "k may be 0"))
+        self.assertEqual((usages["min"].words, usages["min"].choices), ((), ""))
+        for usage in usages.values():
+            self.assertIn(usage.text, " ".join(HELP.split()))
 
 
-class Written(unittest.TestCase):
-    """What `docs/write-help` makes of the tables of SCRIPT."""
+class OneRow(unittest.TestCase):
+    """A form, an option and a command that are added to the table are in all that is made of it, and nothing else is changed by hand."""
 
-    def test_further_rows(self):
-        """A form, an option and a command of the script are in all that is made of them, and only then is nothing to be done."""
-        files = ("docs/write-help", "docs/SCRIPT.md", "docs/diag.1", "README.md", "examples/c17.script", "examples/c17_commands.script")
-        rows = {
-            "| `check FILE`": "| `tell FILE [--narrow]` | `.nnf` | tells [what](SIZE.md) | `1,000` |\n",
-            "| `--sessions N`": "| `--wide N` | 2 to 3,000 | 2,500 | is wide |\n",
-            "| `min S`": "| `dance S w`, w is a wire | `S ok` | dances |\n",
-        }
-        with tempfile.TemporaryDirectory() as folder:
-            top = pathlib.Path(folder)
-            shutil.copytree(TOP / "python/diag_client", top / "python/diag_client")
-            (top / "docs").mkdir()
-            (top / "examples").mkdir()
-            for file in files:
-                shutil.copy(TOP / file, top / file)
-            page = (top / "docs/SCRIPT.md").read_text()
-            for row, further in rows.items():
-                page = page.replace(row, further + row)
-            (top / "docs/SCRIPT.md").write_text(page)
-            run = [subprocess.run([top / "docs/write-help", *words], capture_output=True, text=True) for words in ([], ["--write"], [])]
-            self.assertEqual([done.returncode for done in run], [1, 0, 0], run)
-            made = "python/diag_client/help.txt, docs/diag.1, README.md, examples/c17_commands.script"
-            self.assertIn(f"{made}: not as SCRIPT.md has it", run[0].stderr)
-            found = manual.sections((top / "python/diag_client/help.txt").read_text())
-            entries = {entry.head: entry for section in found for entry in section.entries}
-            self.assertEqual(entries["diag tell FILE"].text, "tells what; prints 1000; --narrow may follow")
-            options = {option.head: option.text for option in entries["diag serve FILE"].options}
-            self.assertEqual(options["--wide N"], "is wide; from 2 to 3000; 2500 if none is given")
-            self.assertEqual(entries["dance S w"].text, "dances; w is a wire")
-            self.assertIn("\ndance S 10\nmin S\n", (top / "examples/c17_commands.script").read_text())
-            self.assertIn("| `diag tell FILE` | tells what |\n| `diag check FILE`", (top / "README.md").read_text())
-            self.assertIn("diag tell FILE [\\-\\-narrow]", (top / "docs/diag.1").read_text())
+    ROWS = (
+        ("option", "serve", "--search", "", "flag", "", "", "", "", "--sessions --frames --levels", "searches [each case](SIZE.md)", ""),
+        ("option", "serve", "--wide", "N", "number", "2", "3000", "2500", ".dev", "", "is wide", ""),
+        ("form", "", "tell", "FILE", "", "", "", "", ".nnf", "", "tells [what](SIZE.md)", "`1,000`"),
+        ("option", "tell", "--far", "", "flag", "", "", "", "", "", "is far", ""),
+        ("command", "", "dance", "S w=b", "0 1", "", "", "", "", "--search", "dances", "`S ok`"),
+    )
+
+    def setUp(self):
+        self.top = pathlib.Path(self.enterContext(tempfile.TemporaryDirectory()))
+        for folder in ("docs", "examples", "completions", "crates/diag"):
+            (self.top / folder).mkdir(parents=True)
+        for file in (*WRITTEN, "docs/write-help", "diag", "crates.txt"):
+            shutil.copy(TOP / file, self.top / file)
+        shutil.copytree(TOP / "python/diag_client", self.top / "python/diag_client", ignore=shutil.ignore_patterns("__pycache__", "bin"))
+        with open(self.top / "python/diag_client/forms.tsv", "a") as table:
+            table.writelines("\t".join(row) + "\n" for row in self.ROWS)
+        self.runs = [self.run_in("docs/write-help", *words) for words in ([], ["--write"], [])]
+
+    def run_in(self, *words):
+        return subprocess.run([self.top / words[0], *words[1:]], capture_output=True, text=True, cwd=self.top)
+
+    def read(self, file):
+        return (self.top / file).read_text()
+
+    def test_written(self):
+        self.assertEqual([done.returncode for done in self.runs], [1, 0, 0], self.runs)
+        made = "python/diag_client/help.txt, docs/diag.1, examples/c17_commands.script, docs/SCRIPT.md, README.md, completions/diag.bash"
+        self.assertIn(f"{made}: not as forms.tsv has it", self.runs[0].stderr)
+        for file, texts in {
+            "python/diag_client/help.txt": (
+                "\ndiag tell FILE        tells what; prints 1000; --far may follow\n",
+                "--search        searches each case; with no other option than --sessions,\n",
+                "--wide N        is wide; from 2 to 3000; 2500 if none is given\n", "\ndance S w=b         dances; b is 0 or 1; with --search\n",
+            ),
+            "docs/SCRIPT.md": (
+                "| `dance S w=b`, b is `0` or `1`, with `--search` | `S ok` | dances |\n", "| `--wide N` | 2 to 3,000 | 2,500 | is wide |\n",
+                "| `--search` | | off | searches [each case](SIZE.md); with no other option than `--sessions`, `--frames`, `--levels` |\n",
+                "| `tell FILE [--far]` | `.nnf` | tells [what](SIZE.md) | `1,000` |\n", "| `serve FILE [options]` |",
+            ),
+            "docs/diag.1": ("[\\-\\-search]", "diag tell FILE [\\-\\-far]"),
+            "README.md": ("| `diag tell FILE` | tells what |\n",),
+            "examples/c17_commands.script": ("\ndance S 10=1\n",),
+        }.items():
+            for text in texts:
+                self.assertIn(text, self.read(file), file)
+
+    def test_hints(self):
+        """The launcher takes the words, and says which of them do not go with each other."""
+        for words, said in (
+            ("serve x.bench --search --levels 3", "no file x.bench"), ("serve x.bench --search --least", "`--search` goes with --sessions, --frames, --levels alone"),
+            ("plan x.bench --search", "`plan` takes no `--search`"), ("serve x.bench --wide 3", "`--wide` is for files that end in .dev"),
+            ("serve x.dev --wide 1", "--wide takes a number from 2 to 3000"), ("tell x.nnf --far", "no file x.nnf"), ("tell x.dev", "ends in .nnf"),
+        ):
+            self.assertIn(said, self.run_in("diag", *words.split()).stderr, words)
+
+    def test_client(self):
+        """It knows the numbers of the option, and the terminal the command."""
+        script = "from diag_client import manual\nprint(manual.limits()['wide'], manual.usages()['dance'])"
+        env = {**os.environ, "PYTHONPATH": str(self.top / "python")}
+        done = subprocess.run([sys.executable, "-B", "-c", script], capture_output=True, text=True, env=env)
+        self.assertIn("(2, 3000) Usage(command='dance', words=('w=b',), text='dances; b is 0 or 1; with --search'", done.stdout)
+
+    def test_completion(self):
+        complete = functools.partial(Completion.complete, self, completion=self.top / "completions/diag.bash", folder=self.top)
+        for words, wanted in (
+            ("t", ["tell"]), ("tell x.nnf ", ["--far"]), ("serve x.dev --w", ["--wide"]), ("serve x.bench --w", []),
+            ("serve x.bench --search ", ["--frames", "--levels", "--sessions"]), ("serve x.bench --least --s", ["--sessions"]),
+        ):
+            self.assertEqual(complete(*words.split(" ")), wanted, words)
 
 
 class Page(unittest.TestCase):
@@ -99,10 +139,10 @@ class Page(unittest.TestCase):
         done = subprocess.run(words, capture_output=True, text=True, check=True, env=env)
         self.assertEqual(done.stderr, "")
         text = " ".join(re.sub("\x1b\\[[0-9]*m|.\b", "", done.stdout).split())
-        for section in manual.read_help():
-            for entry in section.entries:
-                for said in (entry.head, entry.text.replace("`", ""), entry.notes):
-                    self.assertIn(said, text)
+        # An entry and what explains it are parted by two blanks or more.
+        for said in filter(None, re.split(r"  +|\n", HELP.replace("`", ""))):
+            if not said.endswith(":") and not said.startswith("Exit"):
+                self.assertIn(said.strip(), text)
 
 
 def table(page, heading, number=0):
@@ -125,8 +165,7 @@ class Tables(unittest.TestCase):
         self.assertLessEqual(manual.usages().keys(), shown)
 
     def test_statuses(self):
-        told = [entry.head for section in manual.read_help() if section.title == "Exit statuses" for entry in section.entries]
-        self.assertEqual([*dict.fromkeys(status for status, *_ in table("docs/SCRIPT.md", "How a run ends"))], told)
+        self.assertEqual([*dict.fromkeys(status for status, *_ in table("docs/SCRIPT.md", "How a run ends"))], [*manual.rows("status")])
 
     def test_gates(self):
         rows = table("docs/NETLIST.md", "Gates")
@@ -137,14 +176,10 @@ class Tables(unittest.TestCase):
 class Completion(unittest.TestCase):
     """`completions/diag.bash`, asked as bash asks it."""
 
-    def setUp(self):
-        entries = [entry for section in manual.read_help() for entry in section.entries]
-        self.forms = {entry.head.split()[1]: entry for entry in entries if entry.head.startswith("diag ")}
-
-    def complete(self, *words, folder=TOP, completion=COMPLETION):
-        """What is offered; `offered_as` is how, where that is asked for."""
+    def complete(self, *words, folder=TOP, completion=COMPLETION, at=None):
+        """What is offered for the last word, or another one; `offered_as` is how, where that is asked for."""
         script = (
-            'compopt() { printf "%s\\n" "$*" >&3; }; source "$1"; shift; COMP_WORDS=(diag "$@"); COMP_CWORD=$#; _diag 3>asked; '
+            f'compopt() {{ printf "%s\\n" "$*" >&3; }}; source "$1"; shift; COMP_WORDS=(diag "$@"); COMP_CWORD={at or len(words)}; _diag 3>asked; '
             'printf "%s\\n" "${COMPREPLY[@]}"'
         )
         with tempfile.NamedTemporaryFile("r") as asked:
@@ -155,29 +190,27 @@ class Completion(unittest.TestCase):
         return sorted(filter(None, done.stdout.split("\n")))
 
     def test_forms(self):
-        self.assertEqual(self.complete(""), sorted(self.forms))
+        self.assertEqual(self.complete(""), sorted([*manual.rows("form"), *manual.rows("launcher")]))
         self.assertEqual(self.complete("--b"), ["--build"])
 
     def test_options(self):
-        for form, entry in self.forms.items():
-            file = [word for word in entry.head.split()[2:] if word.isupper()]
-            if "FILE" not in file:
-                self.assertEqual(self.complete(form, ""), [])
-                continue
-            told = entry.option_words()
-            self.assertEqual(self.complete(form, *file, ""), sorted(told), form)
-            for option, number in told.items():
-                follows = self.complete(form, *file, option, "")
-                self.assertEqual(follows, [] if number else sorted(told.keys() - {option}))
-                given = [option, "1"] if number else [option]
-                self.assertEqual(self.complete(form, *file, *given, ""), sorted(told.keys() - {option}))
-            if len(file) == 2:
-                self.assertEqual(self.complete(form, file[0], ""), [])
+        for form, row in manual.rows("form").items():
+            given = row.value.replace("FILE", f"x{row.files[0]}" if row.files else "").split()
+            told = manual.rows("option", form)
+            self.assertEqual(self.complete(form, *given, ""), sorted(told), form)
+            for word, option in told.items():
+                others = sorted(told.keys() - {word})
+                self.assertEqual(self.complete(form, *given, word, ""), [] if option.value else others)
+                self.assertEqual(self.complete(form, *given, *option.head.split(), ""), others)
+            if len(given) == 2:
+                self.assertEqual(self.complete(form, given[0], ""), [])
+        self.assertNotIn("--frames", self.complete("serve", "x.dev", ""))
+        self.assertEqual(self.complete("load", ""), [])
+
+    def test_before_other_words(self):
+        self.assertEqual(self.complete("serve", "examples/c1", "--narrow", at=2), ["examples/c17.bench"])
 
     def test_files(self):
-        # What the help says of FILE: its endings, and for which forms.
-        notes = [entry.notes for entry in self.forms.values() if entry.notes]
-        self.assertEqual([re.findall(r"\.[a-z]+", note) for note in notes], [[".bench", ".dev"], [".nnf"]])
         with tempfile.TemporaryDirectory() as folder:
             pathlib.Path(folder, "deep folder").mkdir()
             for name in ("a.bench", "b.dev", "b b.dev", "c.nnf", "d.txt", "deep folder/a.bench"):
@@ -191,23 +224,6 @@ class Completion(unittest.TestCase):
             with mock.patch.dict(os.environ, HOME=folder):
                 self.assertEqual(self.complete("serve", "~/d"), ["~/deep folder"])
         self.assertIn("examples", self.complete("serve", "ex"))
-
-    def test_a_further_form(self):
-        """A form that the help names is completed as the others are."""
-        text = subprocess.run([TOP / "diag", "--help"], capture_output=True, text=True, check=True).stdout
-        text = text.replace("diag check FILE ", "diag tell FILE NUMBER\n    tells; --wide N\n    and --narrow may follow\ndiag check FILE ")
-        with tempfile.TemporaryDirectory() as folder:
-            launcher, completion = pathlib.Path(folder, "diag"), pathlib.Path(folder, "completions/diag.bash")
-            completion.parent.mkdir()
-            shutil.copy(COMPLETION, completion)
-            pathlib.Path(folder, "c.nnf").write_text(text)
-            launcher.write_text(f"#!/usr/bin/env bash\ncat {shlex.quote(folder)}/c.nnf\n")
-            launcher.chmod(0o755)
-            for words, wanted in (
-                ("t", ["tell"]), ("tell c", ["c.nnf", "completions"]), ("tell c.nnf ", []), ("tell c.nnf 1 ", ["--narrow", "--wide"]),
-                ("tell c.nnf 1 --wide ", []), ("tell c.nnf 1 --wide 2 ", ["--narrow"]), ("tell c.nnf 1 --narrow ", ["--wide"]),
-            ):
-                self.assertEqual(self.complete(*words.split(" "), folder=folder, completion=completion), wanted, words)
 
 
 if __name__ == "__main__":

@@ -8,7 +8,7 @@ import sys
 from collections.abc import Callable, Iterable
 
 from ..errors import Ended
-from ..progress import as_options
+from ..hints import as_options
 from ..service import Service
 from . import graphviz, picture
 

@@ -566,7 +566,7 @@ class Shell(cmd.Cmd):
         # What a number or a value may be is in the text.
         form = " ".join(["it is", command, *usage.words])
         if usage.words == ("k",) or "=" in form:
-            form += f": {usage.text if usage.words == ('k',) else usage.text.rpartition('; ')[2]}"
+            form += f": {usage.text if usage.words == ('k',) else usage.choices}"
         return f"{told}: {given or command}; {_hint(given) or form}"
 
     def _unknown_name(self, text: str, words: Sequence[str]) -> str:

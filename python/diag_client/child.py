@@ -165,6 +165,16 @@ class Child:
                 self._awaited.extend(requests)
                 self._watch(self._input, selectors.EVENT_WRITE)
 
+    def limit(self, timeout: float | None) -> None:
+        """From now on each wait takes at most so many seconds."""
+        self._timeout = timeout
+
+    def wait_for(self, request: Request) -> None:
+        """Waits for the reply to something that was sent."""
+        if self._over is not None and not request.is_answered:
+            raise self.ended()
+        self._finish_reply(request)
+
     def catch_up(self) -> None:
         """Waits for what an interrupt left to be answered."""
         if not self.is_own:

@@ -1,0 +1,408 @@
+"""Answers boards over one device: many at a time, and one once more alone if its program ends or takes too long."""
+
+from __future__ import annotations
+
+import collections
+import contextlib
+import dataclasses
+import itertools
+import json
+import operator
+import signal
+import time
+from collections.abc import Iterable, Iterator, Mapping, Sequence
+from typing import Any
+
+from ..errors import Ended, Inconsistent, Refused, sentence
+from .joint import JointProposal
+from ..replies import Request
+from ..service import LIMITS, Service
+from ..session import Session
+from .results import Outcome, answered, failed, refused
+from .stream import BOARD, DEVICE, NAMING, PATTERN, BadReading, Board, Layout, Row
+
+# So many boards are asked at once, while the replies to as many before them are read.
+AT_ONCE = 64
+# So many cells are looked up at a time.
+AT_A_TIME = 8
+# So many replies that several boards may have are kept, and texts of cells that several rows may have.
+MOST_KNOWN = 10_000
+# A search over many patterns opens each a second time, and the advice opens one more.
+MOST_PATTERNS = LIMITS["sessions"][1] // 2 - 1
+# The session that each board of one pattern has for itself.
+NAME = "S"
+OPENED, TAKEN, CLOSED = f"{NAME} open", f"{NAME} ok", f"{NAME} closed"
+LISTED, NOTHING, BLAMED = f"{NAME} diag", f"{NAME} inconsistent", f"{NAME} blame "
+# What is written where nothing was read.
+NO_READING = ("", "X", "x", "Z", "z", "-")
+# How a program is lost.
+LOST = (Ended, TimeoutError)
+
+
+@dataclasses.dataclass(frozen=True)
+class Wanted:
+    """What is asked of each board, and how the device is served."""
+
+    limit: int = 10
+    blame: bool = False
+    next: bool = False
+    seconds: bool = False
+    timeout: float | None = None
+    options: Mapping[str, Any] = dataclasses.field(default_factory=dict)
+
+    @property
+    def asked(self) -> list[str]:
+        """The keys that are asked for beside those that each result has."""
+        return [name for name in ("blame", "next", "seconds") if getattr(self, name)]
+
+
+class _AnyWord(dict[Any, str]):
+    """No line, whatever a cell says."""
+
+    def __missing__(self, word: object) -> str:
+        return ""
+
+
+class _Piece(dict[str, str]):
+    """The lines of some cells that follow one another, by their text: most rows of a table have the same few of them."""
+
+    def __init__(self, tables: Sequence[Mapping[str, str]], sign: str) -> None:
+        super().__init__()
+        self._tables = tables
+        self._sign = sign
+
+    def __missing__(self, text: str) -> str:
+        cells = text.removesuffix(self._sign).split(self._sign)
+        lines = "".join(table[cell] for table, cell in zip(self._tables, cells, strict=True))
+        if len(self) >= MOST_KNOWN:
+            self.clear()
+        self[text] = lines
+        return lines
+
+
+class Columns:
+    """What rows say about the wires of a device: lines of a script, or the bits that were seen."""
+
+    def __init__(self, layout: Layout, wires: Iterable[str], others: Mapping[str, str]) -> None:
+        self.layout = layout
+        self._wires = {wire: wire for wire in wires} | dict(others)
+        self._skipped = {*NAMING, *layout.ignored}
+        self._tables = [self._table(column) for column in layout.columns]
+        self._by_name = {} if others else {name: self._of_wire(name, name) for name in self._wires} | {name: _AnyWord() for name in self._skipped}
+        named = [self._wires[column] for column in layout.columns if column in self._wires and column not in self._skipped]
+        self._has_pairs = len(set(named)) < len(named)
+        # Wires that come after all names are looked up some at a time, as long as each cell is one sign.
+        self._first = next((place for place, column in enumerate(layout.columns) if column not in self._skipped), 0)
+        rest = range(self._first, len(layout.columns), AT_A_TIME)
+        is_plain = self._skipped.isdisjoint(layout.columns[self._first:]) and not self._has_pairs
+        self._pieces = [_Piece(self._tables[place:place + AT_A_TIME], layout.sign) for place in rest] if is_plain else []
+        self._places = range(0, 2 * (len(layout.columns) - self._first) - 1, 2 * AT_A_TIME)
+
+    @property
+    def unknown(self) -> list[str]:
+        """The columns that are no wires."""
+        return [column for column in self.layout.columns if column not in self._wires and column not in self._skipped]
+
+    def script(self, row: Row) -> str:
+        """The lines of what was seen. Raises `BadReading`."""
+        try:
+            if self.layout.is_json:
+                found = json.loads(row[1])
+                return "".join([self._by_name[name][value] for name, value in found.items()])
+            rest = row[1].split(self.layout.sign, self._first)[-1]
+            if self._pieces and len(rest) == 2 * (len(self._tables) - self._first) - 1:
+                return "".join([piece[rest[place:place + 2 * AT_A_TIME]] for piece, place in zip(self._pieces, self._places)])
+            cells = self.layout.cells(row)
+            if len(cells) == len(self._tables) and not self._has_pairs:
+                return "".join(map(operator.getitem, self._tables, cells))
+        except (KeyError, TypeError, ValueError, AttributeError):
+            pass
+        # What is not quite usual takes a little longer.
+        return "".join(f"see {NAME} {wire}={bit}\n" for wire, bit in self.seen(row).items())
+
+    def seen(self, row: Row) -> dict[str, int]:
+        """The bits of the wires. Raises `BadReading`."""
+        seen: dict[str, int] = {}
+        for column, word in self._words(row):
+            if column in self._skipped or word in NO_READING:
+                continue
+            if column not in self._wires:
+                raise BadReading(row[0], column, word, "a reading of no wire")
+            if word not in ("0", "1"):
+                raise BadReading(row[0], column, word, "not 0, 1 or a word for no reading")
+            if seen.setdefault(self._wires[column], int(word)) != int(word):
+                raise BadReading(row[0], column, word, "another reading of one wire with a column before it")
+        return seen
+
+    def label(self, row: Row) -> str:
+        """What a row calls its pattern."""
+        return next((word for column, word in self._words(row) if column == PATTERN), "")
+
+    def _words(self, row: Row) -> Iterator[tuple[str, str]]:
+        """Each column with what stands there."""
+        if self.layout.is_json:
+            for name, value in self.layout.object(row).items():
+                yield name, "" if value is None else value if isinstance(value, str) else str(int(value)) if value in (0, 1) else json.dumps(value)
+            return
+        columns, cells = self.layout.columns, [cell.strip() for cell in self.layout.cells(row)]
+        while len(cells) > len(columns) and not cells[-1]:
+            cells.pop()
+        if len(cells) != len(columns):
+            word = cells[len(columns)] if len(cells) > len(columns) else None
+            raise BadReading(row[0], None, word, f"{len(cells)} cells, and the first row has {len(columns)}")
+        yield from zip(columns, cells, strict=True)
+
+    def _table(self, column: str) -> dict[str, str]:
+        return _AnyWord() if column in self._skipped else self._of_wire(column, self._wires.get(column))
+
+    @staticmethod
+    def _of_wire(column: str, wire: str | None) -> dict[Any, str]:
+        lines: dict[Any, str] = dict.fromkeys((None, *NO_READING), "")
+        if wire is not None:
+            for bit in (0, 1):
+                lines[bit] = lines[str(bit)] = f"see {NAME} {wire}={bit}\n"
+        return lines
+
+
+class Asked(Request):
+    """All lines of a board that has one pattern, from `open` to `close`, and their replies."""
+
+    def __init__(self, seen: str, ends: str) -> None:
+        super().__init__(NAME, f"open {NAME}")
+        self._text = f"open {NAME}\n{seen}{ends}"
+        self._seen = seen.count("\n")
+        self._lines: list[str] = []
+
+    @property
+    def sent(self) -> str:
+        return self._text
+
+    def take_from(self, lines: Sequence[str], place: int) -> int:
+        try:
+            end = lines.index(CLOSED, place) + 1
+            self.is_answered = True
+        except ValueError:
+            end = len(lines)
+        self._lines += lines[place:end]
+        return end
+
+    def reply(self) -> list[str] | None:
+        """The replies to what is asked once all was seen; None if something was refused."""
+        first = self._seen + 1
+        told = self._lines[first:-1]
+        return told if told and self._lines[0] == OPENED and self._lines[1:first].count(TAKEN) == self._seen else None
+
+    def refusal(self) -> Outcome:
+        """What is said if something was refused."""
+        wrong = next((line for line in self._lines if line not in (OPENED, TAKEN, CLOSED)), self._lines[0])
+        return failed(f"unexpected reply: {wrong}")
+
+
+def outcome_of(told: Sequence[str], wanted: Wanted) -> Outcome:
+    """What the replies to what is asked say of a board."""
+    if told[0] == NOTHING:
+        return answered(None, [], True, **({"blame": None} if wanted.blame else {}))
+    sets = [line.split(" ")[2:] for line in itertools.takewhile(lambda line: line.startswith(LISTED), told[1:])]
+    is_all = len(sets) <= wanted.limit
+    rows = (line.rsplit(" ", 2)[1:] for line in told if line.startswith(BLAMED))
+    more = {"blame": _by_verdict(rows)} if wanted.blame else {}
+    return answered(int(told[0].split(" ", 3)[2]), sets if is_all else sets[:-1], is_all, **more)
+
+
+def _by_verdict(rows: Iterable[Sequence[str]]) -> dict[str, list[str]]:
+    """The parts that are faulty in all sets, and those that are in some."""
+    blamed: dict[str, list[str]] = {"always": [], "sometimes": []}
+    for part, verdict in rows:
+        if verdict in blamed:
+            blamed[verdict].append(part)
+    return blamed
+
+
+def why(error: Exception) -> str:
+    """Why a board has no answer, in words that are the same on each machine."""
+    if not isinstance(error, Ended):
+        return sentence(error).split(";")[0]
+    how = f"status {error.status}" if error.status >= 0 else f"signal {-error.status} ({signal.strsignal(-error.status)})"
+    return f"the program ended with {how}" + (f": {error.last_line}" if error.status > 0 and error.last_line else "")
+
+
+@dataclasses.dataclass(frozen=True)
+class Pattern:
+    """One of several rows of a board."""
+
+    label: str
+    seen: Mapping[str, int]
+
+
+Question = Asked | list[Pattern] | BadReading
+
+
+class Desk:
+    """A device that is served. Its program is started again when it has ended."""
+
+    def __init__(self, file: str, wanted: Wanted) -> None:
+        self._file = file
+        self._wanted = wanted
+        self._service = self._started()
+        self._others = self._service.other_names
+        self._wires = self._service.wires
+        self._columns: dict[Layout, Columns] = {}
+        self._known: dict[str, Outcome] = {}
+        blames = f"blame {NAME}\n" if wanted.blame else ""
+        # One more shows whether these are all.
+        self._ends = f"min {NAME}\nlist {NAME} {wanted.limit + 1}\n{blames}close {NAME}\n"
+
+    def columns(self, layout: Layout) -> Columns:
+        """What rows of this layout say."""
+        if layout not in self._columns:
+            self._columns[layout] = Columns(layout, self._wires, self._others)
+        return self._columns[layout]
+
+    def outcomes(self, layout: Layout, boards: Sequence[Board]) -> list[Outcome]:
+        """What is said of each board, in order."""
+        columns = self.columns(layout)
+        found: list[Outcome] = []
+        while len(found) < len(boards):
+            try:
+                for outcome in self._asked(columns, boards[len(found):]):
+                    found.append(outcome)
+            except LOST:
+                found.append(self._once_more(columns, boards[len(found)]))
+        return found
+
+    def stop(self) -> None:
+        """Ends the program."""
+        self._service.stop()
+
+    def _started(self) -> Service:
+        """The program, ready. One that a signal ends is started once more, since the device need not be the reason."""
+        try:
+            service = Service(self._file, **self._wanted.options)
+        except Ended as ended:
+            if ended.status >= 0:
+                raise
+            service = Service(self._file, **self._wanted.options)
+        return service
+
+    def _once_more(self, columns: Columns, board: Board) -> Outcome:
+        """A board at which the program was lost, or the time."""
+        self._service.stop()
+        try:
+            return next(self._asked(columns, [board]))
+        except LOST as error:
+            self._service.stop()
+            return failed(why(error))
+
+    def _asked(self, columns: Columns, boards: Sequence[Board]) -> Iterator[Outcome]:
+        """What is said of each board, as it comes. Raises what lost the program at the first one that is not answered."""
+        if not self._service.is_running:
+            self._service = self._started()
+        self._service.limit(self._wanted.timeout)
+        is_plain = not (self._wanted.next or self._wanted.seconds) and all(len(board.rows) == 1 for board in boards)
+        size, ahead = (AT_ONCE, 1) if is_plain else (1, 0)
+        waiting: collections.deque[list[Question]] = collections.deque()
+        for first in range(0, len(boards), size):
+            begun = time.monotonic()
+            chunk = [self._question(columns, board) for board in boards[first:first + size]]
+            # A program that has ended is lost at the first board that waits.
+            with contextlib.suppress(Ended):
+                self._service.send([question for question in chunk if isinstance(question, Asked)])
+            waiting.append(chunk)
+            if len(waiting) > ahead:
+                yield from self._settled(waiting.popleft(), begun)
+        for chunk in waiting:
+            yield from self._settled(chunk, begun)
+
+    def _question(self, columns: Columns, board: Board) -> Question:
+        """What is asked of a board, or what is wrong with its rows."""
+        try:
+            _check_rows(board, columns.layout)
+            if len(board.rows) == 1 and not self._wanted.next:
+                return Asked(columns.script(board.rows[0]), self._ends)
+            return [Pattern(columns.label(row) or f"p{place}", columns.seen(row)) for place, row in enumerate(board.rows, 1)]
+        except BadReading as error:
+            return error
+
+    def _settled(self, chunk: Iterable[Question], begun: float) -> Iterator[Outcome]:
+        for question in chunk:
+            if isinstance(question, Asked):
+                outcome = self._answered(question)
+            elif isinstance(question, BadReading):
+                outcome = refused(str(question), question.line, question.column, question.word)
+            else:
+                outcome = self._searched(question)
+            yield outcome.with_seconds(time.monotonic() - begun) if self._wanted.seconds else outcome
+
+    def _answered(self, asked: Asked) -> Outcome:
+        """What is said of a board of one pattern. Boards with the same faults have the same replies."""
+        if not asked.is_answered:
+            self._service.wait_for(asked)
+        told = asked.reply()
+        if told is None:
+            return asked.refusal()
+        key = "\n".join(told)
+        outcome = self._known.get(key)
+        if outcome is None:
+            if len(self._known) >= MOST_KNOWN:
+                self._known.clear()
+            outcome = self._known[key] = outcome_of(told, self._wanted)
+        return outcome
+
+    def _searched(self, patterns: Sequence[Pattern]) -> Outcome:
+        """What explains all patterns of a board."""
+        sessions = {Session(self._service, self._service.made_name()): pattern for pattern in patterns}
+        try:
+            return self._explained(sessions)
+        except Inconsistent:
+            return answered(None, [], True, **dict.fromkeys(name for name in self._wanted.asked if name != "seconds"))
+        except Refused as error:
+            return failed(str(error))
+        finally:
+            for session in sessions:
+                session.abandon()
+            self._service.limit(self._wanted.timeout)
+
+    def _explained(self, sessions: Mapping[Session, Pattern]) -> Outcome:
+        """All answers together take no longer than the time that a board may take."""
+        service, wanted = self._service, self._wanted
+        limits = _left(wanted.timeout)
+        more: dict[str, Any] = {}
+        service.limit(next(limits))
+        service.do([session.opening() for session in sessions])
+        service.do([line for session, pattern in sessions.items() for line in session.seeing(pattern.seen)])
+        asked = next(iter(sessions)) if len(sessions) == 1 else service.together(sessions, timeout=next(limits))
+        cost = asked.minimum().cost
+        service.limit(next(limits))
+        sets = [list(found) for found in asked.diagnoses(wanted.limit + 1)]
+        service.limit(next(limits))
+        if wanted.blame:
+            more["blame"] = _by_verdict((row.part, row.verdict) for row in asked.blame())
+        service.limit(next(limits))
+        if wanted.next:
+            best = asked.best_probe()
+            names = {session.name: pattern.label for session, pattern in sessions.items()}
+            more["next"] = best and {"wire": best.wire, "pattern": names[best.pattern] if isinstance(best, JointProposal) else None}
+        return answered(cost, sets[:wanted.limit], len(sets) <= wanted.limit, **more)
+
+
+def _check_rows(board: Board, layout: Layout) -> None:
+    """Raises `BadReading` if the rows are not those of one board."""
+    if len(board.rows) > 1:
+        devices = [layout.names(row)[1] for row in board.rows]
+        for (line, _), device in zip(board.rows, devices, strict=True):
+            if device != devices[0]:
+                raise BadReading(line, DEVICE, device, f"another device than in line {board.rows[0][0]}, for one board")
+        if len(board.rows) > MOST_PATTERNS:
+            raise BadReading(board.rows[MOST_PATTERNS][0], None, None, f"{len(board.rows)} patterns of one board, at most {MOST_PATTERNS}")
+    elif not board.name:
+        # What else is wrong with the row is said first.
+        layout.check(board.rows[0])
+        raise BadReading(board.rows[0][0], BOARD, "", "no name of a board")
+
+
+def _left(timeout: float | None) -> Iterator[float | None]:
+    """How much of a time is left, each time that it is asked."""
+    ends = time.monotonic() + (timeout or 0)
+    while True:
+        # What is over by now is said by the next wait.
+        yield None if timeout is None else max(0.001, ends - time.monotonic())

@@ -1,0 +1,254 @@
+"""A table of readings as it comes, from a file or a pipe, taken board by board: comma-separated values, or a JSON object in each line."""
+
+from __future__ import annotations
+
+import codecs
+import collections
+import contextlib
+import csv
+import dataclasses
+import functools
+import io
+import itertools
+import json
+import os
+import pathlib
+import re
+import sys
+from collections.abc import Iterable, Iterator, Mapping
+from typing import IO, Any, NamedTuple
+
+from ..errors import DiagError, shown
+from ..session import BLANKS
+
+# The columns that name the board, its pattern and its device. Each other column, unless it is ignored, is a wire.
+BOARD, PATTERN, DEVICE = "board", "pattern", "device"
+NAMING = (BOARD, PATTERN, DEVICE)
+SIGNS = ",;\t"
+# What some programs write before the first row: the sign between cells.
+SIGN_LINE = re.compile("sep=(.)", re.IGNORECASE)
+# The begin of a workbook (.xlsx, .ods), and of text in UTF-16.
+ZIP = b"PK\x03\x04"
+UTF_16 = (codecs.BOM_UTF16_LE, codecs.BOM_UTF16_BE)
+# A quote that is not closed within so many lines was never meant to be.
+LONGEST_CELL = 20
+MARK = "#"
+
+Row = tuple[int, str]
+
+
+class UnusableReadings(DiagError, ValueError):
+    """Nothing can be read from a table of readings, as a whole. The text has the line and the column, if it is about one."""
+
+
+class BadReading(DiagError):
+    """What a row says is no reading: in which line and column, and by which word."""
+
+    def __init__(self, line: int, column: str | None, word: str | None, what: str) -> None:
+        super().__init__(line, column, word, what)
+        self.line = line
+        self.column = column
+        self.word = word
+        self.what = what
+
+    def __str__(self) -> str:
+        where = f"line {self.line}" + ("" if self.column is None else f", column {shown(self.column)}")
+        return f"{where}: {self.what}" + ("" if self.word is None else f": {shown(self.word)!r}")
+
+
+class Board(NamedTuple):
+    """The rows of one board, each with the number of its line, as they are written."""
+
+    name: str
+    device: str
+    rows: tuple[Row, ...]
+
+
+@dataclasses.dataclass(frozen=True)
+class Layout:
+    """How rows are read: the columns' names, and the sign between cells. JSON has no sign, and its columns are the keys of each row."""
+
+    columns: tuple[str, ...] = ()
+    sign: str = ""
+    ignored: frozenset[str] = frozenset()
+
+    @property
+    def is_json(self) -> bool:
+        """Whether each row is a JSON object."""
+        return not self.sign
+
+    def cells(self, row: Row) -> list[str]:
+        """The cells of a row, with the blanks around them."""
+        line, text = row
+        if '"' not in text:
+            return text.split(self.sign)
+        try:
+            return next(csv.reader([text], delimiter=self.sign, strict=True))
+        except csv.Error as error:
+            raise BadReading(line, None, None, f"not comma-separated values: {error}") from None
+
+    def object(self, row: Row) -> dict[str, Any]:
+        """The object in a row of JSON."""
+        line, text = row
+        try:
+            found = json.loads(text)
+        except (ValueError, RecursionError) as error:
+            raise BadReading(line, None, None, f"not JSON: {error}") from None
+        if not isinstance(found, dict):
+            raise BadReading(line, None, None, "not a JSON object")
+        return found
+
+    def check(self, row: Row) -> None:
+        """Raises `BadReading` if nothing can be read of a row."""
+        self.object(row) if self.is_json else self.cells(row)
+
+    def names(self, row: Row) -> tuple[str | None, str]:
+        """What a row calls its board, None if it does not say, and its device."""
+        if self.is_json:
+            try:
+                found = self.object(row)
+            except BadReading:
+                return "", ""
+            return (_plain(found[BOARD]) if BOARD in found else None), _plain(found.get(DEVICE))
+        board, device, most = self._places
+        if '"' in row[1]:
+            try:
+                cells = self.cells(row)
+            except BadReading:
+                cells = row[1].split(self.sign)
+        else:
+            cells = row[1].split(self.sign, most)
+        return (None if board is None else _at(cells, board)), ("" if device is None else _at(cells, device))
+
+    @functools.cached_property
+    def _places(self) -> tuple[int | None, int | None, int]:
+        """The columns of the board and of the device, and how many cells are looked at to find both."""
+        places = [self.columns.index(column) if column in self.columns else None for column in (BOARD, DEVICE)]
+        return places[0], places[1], max((place for place in places if place is not None), default=0) + 1
+
+
+def _at(cells: list[str], place: int) -> str:
+    return _plain(cells[place]) if place < len(cells) else ""
+
+
+def _plain(value: object) -> str:
+    """A name as a line of results has it."""
+    return "" if value is None else " ".join(str(value).split())
+
+
+class Readings:
+    """The boards of a table. Rows of one board follow one another. A row that has no place for a board's name is one, and has a number.
+
+    `source` is a file, `-` for standard input, or rows as mappings from names to readings.
+    """
+
+    def __init__(self, source: str | os.PathLike[str] | Iterable[Mapping[str, Any]], ignored: Iterable[str] = ()) -> None:
+        self._binary: IO[bytes] | None = None
+        self._size = 0
+        self._ignored = frozenset(ignored)
+        if isinstance(source, (str, os.PathLike)):
+            self.title = os.fspath(source)
+            self.folder = pathlib.Path(source).parent if self.title != "-" else pathlib.Path()
+            self._lines = ((number, line.rstrip("\r\n")) for number, line in enumerate(self._opened(), 1))
+            self.layout = self._read_layout()
+        else:
+            self.title, self.folder = "the readings", pathlib.Path()
+            self._lines = ((number, json.dumps(row)) for number, row in enumerate(source, 1))
+            self.layout = Layout(ignored=self._ignored)
+
+    def __iter__(self) -> Iterator[Board]:
+        name, device, number = "", "", 0
+        rows: list[Row] = []
+        for row in self._rows():
+            number += 1
+            board, of = self.layout.names(row)
+            if rows and board and board == name:
+                rows.append(row)
+                continue
+            if rows:
+                yield Board(name, device, tuple(rows))
+            name, device, rows = str(number) if board is None else board, of, [row]
+        if rows:
+            yield Board(name, device, tuple(rows))
+
+    @property
+    def share(self) -> float | None:
+        """How much of the file was read; None if nobody knows."""
+        return self._binary.tell() / self._size if self._binary is not None and self._size else None
+
+    def close(self) -> None:
+        """Closes what was opened."""
+        if self._binary is not None:
+            with contextlib.suppress(OSError):
+                self._binary.close()
+
+    def _opened(self) -> Iterable[str]:
+        """The lines of the file, as text."""
+        raw = io.FileIO(sys.stdin.fileno() if self.title == "-" else self.title, closefd=self.title != "-")
+        with contextlib.suppress(OSError):
+            self._size = os.fstat(raw.fileno()).st_size if raw.seekable() else 0
+        self._binary = raw
+        buffered = io.BufferedReader(raw, 1 << 18)
+        begin = buffered.peek(len(ZIP))
+        if begin.startswith(ZIP):
+            raise UnusableReadings(f"{self.title}: a workbook or an archive, and no comma-separated values: save the sheet as CSV")
+        encoding, errors = ("utf-16", "replace") if begin.startswith(UTF_16) else ("utf-8-sig", "surrogateescape")
+        return io.TextIOWrapper(buffered, encoding, errors)
+
+    def _read_layout(self) -> Layout:
+        """What the first row says, or that there are objects from the first row on."""
+        first = next(self._rows_among(self._lines, ""), None)
+        if first is None:
+            raise UnusableReadings(f"{self.title}: no rows: a first row with the names of wires is needed, and then a row for each board")
+        self._lines = itertools.chain([first], self._lines)
+        if first[1].lstrip(BLANKS).startswith("{"):
+            return Layout(ignored=self._ignored)
+        self._lines = _joined(self._lines)
+        row, sign = next(self._lines), ""
+        if SIGN_LINE.fullmatch(text := row[1].strip(" ")):
+            row, sign = next(self._rows_among(self._lines, ""), (row[0], "")), text[-1]
+        sign = sign or next((sign for sign in SIGNS if sign in row[1]), ",")
+        columns = [cell.strip(BLANKS) for cell in Layout((), sign).cells(row)]
+        while columns and not columns[-1]:
+            columns.pop()
+        self._check(row[0], columns)
+        return Layout(tuple(columns), sign, self._ignored)
+
+    def _check(self, line: int, columns: list[str]) -> None:
+        for place, name in enumerate(columns, 1):
+            if name in columns[:place - 1]:
+                raise UnusableReadings(f"{self.title}: line {line}, column {place}: a second column {shown(name)!r}")
+        if PATTERN in columns and BOARD not in columns:
+            raise UnusableReadings(f"{self.title}: line {line}: a column `{PATTERN}` needs a column `{BOARD}`")
+
+    def _rows(self) -> Iterator[Row]:
+        return self._rows_among(self._lines, self.layout.sign)
+
+    @staticmethod
+    def _rows_among(rows: Iterable[Row], sign: str) -> Iterator[Row]:
+        """Those that say something."""
+        empty = BLANKS + sign
+        for row in rows:
+            text = row[1].strip(empty)
+            if text and not text.startswith(MARK):
+                yield row
+
+
+def _joined(rows: Iterator[Row]) -> Iterator[Row]:
+    """Rows whose cells in quotes may have more than one line. A quote that nothing closes is in one row alone."""
+    waiting: collections.deque[Row] = collections.deque()
+
+    def following() -> Row | None:
+        return waiting.popleft() if waiting else next(rows, None)
+
+    while (row := following()) is not None:
+        more: list[Row] = []
+        is_open = row[1].count('"') % 2 == 1
+        while is_open and len(more) < LONGEST_CELL and (after := following()) is not None:
+            more.append(after)
+            is_open = after[1].count('"') % 2 == 0
+        if more and not is_open:
+            row = row[0], "\n".join(text for _, text in [row, *more])
+        else:
+            waiting.extendleft(reversed(more))
+        yield row

@@ -5,17 +5,17 @@ from __future__ import annotations
 import collections
 import contextlib
 import os
-import pathlib
+import sys
 from collections.abc import Iterable, Iterator, Mapping
-from concurrent.futures import Future
+from concurrent.futures import CancelledError, Future
 from typing import Any, Protocol
 
-from ..errors import Ended, shown
+from ..errors import shown
 from ..service import find_program
 from .answering import Wanted
 from .results import Result, failed
 from .stream import DEVICE, Board, Readings, UnusableReadings
-from .workers import Answers, Batch, Device, Processes
+from .workers import Answers, Batch, Device, Processes, UnusableCluster
 
 # A batch is to take so many seconds, and has at most so many boards; how long a board takes is known after the first, small ones.
 GOAL = 0.25
@@ -24,6 +24,7 @@ FIRST_BOARDS = 16
 # So many batches, and as many again for each worker, are under way or wait to be written.
 ROOM = 16
 MOST_SHOWN = 5
+NEEDED = "`pip install 'diag-client[cluster]'`, or Debian's python3-distributed"
 
 
 class Pool(Protocol):
@@ -51,8 +52,10 @@ def make_pool(jobs: int | None, cluster: str | None) -> Pool:
     """The workers: processes on this machine, or those of a cluster."""
     if cluster is None:
         return Processes(processors() if jobs is None else jobs)
-    from .cluster import Cluster
-
+    try:
+        from .cluster import Cluster
+    except ModuleNotFoundError:
+        raise UnusableCluster(f"a cluster needs dask.distributed for {sys.executable}: {NEEDED}") from None
     return Cluster(cluster)
 
 
@@ -76,15 +79,15 @@ class Answering:
             names = ", ".join(repr(shown(name)) for name in unknown[:MOST_SHOWN]) + (", .." if len(unknown) > MOST_SHOWN else "")
             raise UnusableReadings(f"{self._readings.title}: the device has no wire {names}; `--ignore NAME` passes over a column")
 
-    def answers(self, boards: Iterable[Board]) -> Iterator[Answers]:
+    def answers(self, boards: Iterable[Board]) -> Iterator[tuple[Batch, Answers]]:
         """What is said of these boards."""
         waiting: collections.deque[tuple[Batch, Future[Answers]]] = collections.deque()
         for batch in self._batches(boards):
             waiting.append((batch, self._pool.submit("answer", batch)))
             while waiting and (waiting[0][1].done() or len(waiting) > ROOM + self._pool.size):
-                yield self._taken(*waiting.popleft())
+                yield waiting[0][0], self._taken(*waiting.popleft())
         while waiting:
-            yield self._taken(*waiting.popleft())
+            yield waiting[0][0], self._taken(*waiting.popleft())
 
     def _batches(self, boards: Iterable[Board]) -> Iterator[Batch]:
         batch: list[Board] = []
@@ -110,6 +113,8 @@ class Answering:
         """The answers of a batch. If its worker is lost, each board is tried alone, and one that is lost then is tried once more."""
         try:
             answers = future.result()
+        except CancelledError:
+            raise UnusableCluster("the cluster is gone") from None
         except self._pool.lost:
             if len(batch.boards) > 1:
                 return Answers.joined([self._taken(single, self._pool.submit("answer", single)) for single in batch.each()])
@@ -168,7 +173,7 @@ def diagnose_boards(
     try:
         answering = Answering(file, table, wanted_of(limit, blame, next, seconds, timeout, options, cluster), pool)
         answering.check()
-        for answers in answering.answers(table):
+        for _, answers in answering.answers(table):
             yield from map(Result.of, answers.lines.splitlines())
     finally:
         pool.stop()

@@ -11,6 +11,7 @@ from .. import interrupts
 from ..errors import DiagError, sentence
 from ..progress import as_options, options_in
 from .batch import Answering, make_pool, wanted_of
+from .cross_check import CrossCheck
 from .resume import STANDARD_OUTPUT, ResultsFile, UnusableResults
 from .results import FlatTable, Tally
 from .stream import Readings, UnusableReadings
@@ -94,7 +95,7 @@ def run(words: argparse.Namespace) -> int:
         with contextlib.ExitStack() as stack:
             table = Readings(words.readings, words.ignore)
             stack.callback(table.close)
-            _answer(words, table, tally, stack)
+            check = _answer(words, table, tally, stack)
     except KeyboardInterrupt:
         _say(f"interrupted; {_state(words, tally)}")
         return interrupts.STATUS
@@ -106,13 +107,13 @@ def run(words: argparse.Namespace) -> int:
     except (DiagError, OSError, ValueError) as error:
         _say(as_options(sentence(error)) + (f"; {_state(words, tally)}" if tally.boards else ""))
         return 1
-    if words.summary:
-        print(tally.text(), end="", file=sys.stderr if words.output == STANDARD_OUTPUT else sys.stdout, flush=True)
-    return 0 if tally.all_answered else 1
+    text = (tally.text() if words.summary else "") + (check.text() if check else "")
+    print(text, end="", file=sys.stderr if words.output == STANDARD_OUTPUT else sys.stdout, flush=True)
+    return 0 if tally.all_answered and not (check and check.differing) else 1
 
 
-def _answer(words: argparse.Namespace, readings: Readings, tally: Tally, stack: contextlib.ExitStack) -> None:
-    """Answers the boards, writes their results and counts them."""
+def _answer(words: argparse.Namespace, readings: Readings, tally: Tally, stack: contextlib.ExitStack) -> CrossCheck | None:
+    """Answers the boards, writes their results and counts them. Gives what compared them, if anything did."""
     options = {name: value for name, value in options_in(words).items() if name != "timeout"}
     wanted = wanted_of(words.list, words.blame, words.next, words.seconds, words.timeout, options, words.cluster)
     flat = FlatTable(wanted.asked) if words.csv else None
@@ -122,14 +123,22 @@ def _answer(words: argparse.Namespace, readings: Readings, tally: Tally, stack: 
     stack.callback(pool.stop)
     answering = Answering(words.file, readings, wanted, pool)
     answering.check()
+    check = CrossCheck(readings.layout, words.list, words.frames) if words.check else None
+    if check is not None:
+        stack.callback(check.close)
     boards = iter(readings)
     results.answered(boards, tally)
     progress = _Progress(readings, tally.boards)
     stack.callback(progress.clear)
-    for answers in answering.answers(boards):
+    for batch, answers in answering.answers(boards):
         results.write(flat.rows(answers.lines) if flat else answers.lines)
         tally.add(answers.tally)
+        if check is not None:
+            for text in check.differences([(batch.devices[board.device].path, board) for board in batch.boards], answers.lines.splitlines()):
+                progress.clear()
+                _say(text)
         progress.show(tally.boards)
+    return check
 
 
 def _state(words: argparse.Namespace, tally: Tally) -> str:

@@ -16,6 +16,7 @@ import sys
 import tempfile
 import threading
 import time
+import zlib
 from collections.abc import Iterator, Mapping, Sequence
 from concurrent.futures import Future, ThreadPoolExecutor
 from typing import Any
@@ -34,13 +35,17 @@ PATIENCE = 1.0
 HOME = pathlib.Path(__file__).resolve().parents[2]
 
 
+class UnusableCluster(DiagError):
+    """The cluster is not there, or cannot answer. The text says what to do."""
+
+
 class WorkerLost(DiagError):
     """A worker has ended before it answered."""
 
 
 @dataclasses.dataclass(frozen=True)
 class Device:
-    """A device by the path of its file, or by what is in it and in its table of names, for a machine that has no such file."""
+    """A device by the path of its file; for a machine that has no such file, with what is in it and in its table of names."""
 
     path: str
     files: Mapping[str, bytes] | None = None
@@ -50,7 +55,8 @@ class Device:
         """A device for other machines. If its file cannot be read, the worker says so."""
         names = (path, f"{path}.names")
         try:
-            return cls(path, {os.path.basename(name): pathlib.Path(name).read_bytes() for name in names if name == path or os.path.exists(name)})
+            read = {name: pathlib.Path(name).read_bytes() for name in names if name == path or os.path.exists(name)}
+            return cls(path, {os.path.basename(name): zlib.compress(data) for name, data in read.items()})
         except OSError:
             return cls(path)
 
@@ -67,7 +73,7 @@ class Device:
             return None
         folder = tempfile.TemporaryDirectory(prefix="diag-")
         for name, data in self.files.items():
-            (pathlib.Path(folder.name) / name).write_bytes(data)
+            (pathlib.Path(folder.name) / name).write_bytes(zlib.decompress(data))
         return folder
 
 
@@ -120,38 +126,41 @@ class Answers:
 
 
 class _Desks:
-    """The devices that are served in this process. A device is served by each thread that answers, since a service is for one thread."""
+    """The devices that are served in this process, for one or more runs: by each thread that answers, since a service is for one thread."""
 
     def __init__(self) -> None:
         self._lock = threading.Lock()
-        self._of: dict[tuple[int, str, str], Desk] = {}
-        self._folders: dict[str, tempfile.TemporaryDirectory[str] | None] = {}
+        self._of: dict[tuple[str, int, str], Desk] = {}
+        self._folders: dict[tuple[str, str], tempfile.TemporaryDirectory[str] | None] = {}
 
-    def get(self, device: Device, wanted: Wanted) -> Desk:
+    def get(self, run: str, device: Device, wanted: Wanted) -> Desk:
         """A device, served."""
-        key = threading.get_ident(), device.key, repr(wanted)
+        key = run, threading.get_ident(), device.key
         with self._lock:
             desk = self._of.pop(key, None)
-            if device.key not in self._folders:
-                self._folders[device.key] = device.unpacked()
-            folder = self._folders[device.key]
+            folder = self._folders.get((run, device.key)) or device.unpacked()
+            self._folders[run, device.key] = folder
         if desk is None:
             file = device.path if folder is None else os.path.join(folder.name, os.path.basename(device.path))
             desk = _opened(file, wanted)
         with self._lock:
             self._of[key] = desk
-            own = [known for known in self._of if known[0] == key[0]]
+            own = [known for known in self._of if known[:2] == key[:2]]
             dropped = [self._of.pop(known) for known in own[:-MOST_DESKS]]
         for old in dropped:
             old.stop()
         return desk
 
-    def stop(self) -> None:
-        """Ends all programs."""
+    def stop(self, run: str) -> None:
+        """Ends all programs of a run."""
         with self._lock:
-            desks, self._of = list(self._of.values()), {}
+            desks = [self._of.pop(key) for key in list(self._of) if key[0] == run]
+            folders = [self._folders.pop(key) for key in list(self._folders) if key[0] == run]
         for desk in desks:
             desk.stop()
+        for folder in folders:
+            if folder is not None:
+                folder.cleanup()
 
 
 def _opened(file: str, wanted: Wanted) -> Desk:
@@ -167,26 +176,31 @@ def _opened(file: str, wanted: Wanted) -> Desk:
 DESKS = _Desks()
 
 
-def unknown_columns(batch: Batch) -> list[str]:
+def unknown_columns(batch: Batch, run: str = "") -> list[str]:
     """The columns of a table that are no wires of the one device of a batch. Raises what its program says against the device."""
     device, = batch.devices.values()
-    return DESKS.get(device, batch.wanted).columns(batch.layout).unknown
+    return DESKS.get(run, device, batch.wanted).columns(batch.layout).unknown
 
 
-def answer(batch: Batch) -> Answers:
+def stop(run: str) -> None:
+    """Ends all programs of a run in this process."""
+    DESKS.stop(run)
+
+
+def answer(batch: Batch, run: str = "") -> Answers:
     """What is said of each board of a batch."""
     begun = time.monotonic()
     outcomes: dict[int, Outcome] = {}
     for name, device in batch.devices.items():
         places = [place for place, board in enumerate(batch.boards) if board.device == name]
-        found = _of_device(batch, device, [batch.boards[place] for place in places])
+        found = _of_device(run, batch, device, [batch.boards[place] for place in places])
         outcomes |= zip(places, found, strict=True)
     return Answers.of(batch.boards, [outcomes[place] for place in range(len(batch.boards))], time.monotonic() - begun)
 
 
-def _of_device(batch: Batch, device: Device, boards: Sequence[Board]) -> list[Outcome]:
+def _of_device(run: str, batch: Batch, device: Device, boards: Sequence[Board]) -> list[Outcome]:
     try:
-        return DESKS.get(device, batch.wanted).outcomes(batch.layout, boards)
+        return DESKS.get(run, device, batch.wanted).outcomes(batch.layout, boards)
     except NotBuilt:
         raise
     except (DiagError, OSError, ValueError) as error:
@@ -310,4 +324,4 @@ def _answer_all() -> None:
                 answered = error
             pickle.dump(answered, answers)
             answers.flush()
-    DESKS.stop()
+    stop("")

@@ -174,7 +174,10 @@ class Readings:
     @property
     def share(self) -> float | None:
         """How much of the file was read; None if nobody knows."""
-        return self._binary.tell() / self._size if self._binary is not None and self._size else None
+        if self._binary is None or not self._size:
+            return None
+        # It is closed once all of it was read.
+        return 1.0 if self._binary.closed else self._binary.tell() / self._size
 
     def close(self) -> None:
         """Closes what was opened."""

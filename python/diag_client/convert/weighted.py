@@ -12,9 +12,10 @@ import pathlib
 import sys
 from collections.abc import Iterator, Mapping, Sequence
 
+from .. import interrupts
 from ..case import Case
 from ..devices import FLIP_FLOP, GATES, Device, Gate, Part, Reduction, Type, copies, read_device, wires_of
-from ..errors import DiagError, shown
+from ..errors import DiagError, sentence, shown
 from ..files import write_whole
 
 Clause = list[int]
@@ -131,7 +132,10 @@ def _words() -> argparse.ArgumentParser:
 def write(words: Sequence[str] | None = None) -> str:
     """Does what the words say, and gives what is to be printed."""
     given = _words().parse_args(words)
-    device = read_device(given.file)
+    try:
+        device = read_device(given.file)
+    except (KeyError, IndexError, ValueError, TypeError, AssertionError):
+        raise DiagError(f"{given.file}: not a device that `diag` takes: `diag plan {given.file}` says why") from None
     if given.frames is None and any(part.kind == FLIP_FLOP for part in device.parts):
         raise DiagError(f"{given.file}: the netlist has flip-flops: give --frames F, the number of clock periods that are seen")
     opened = sys.stdin if given.case == "-" else open(given.case, encoding="utf-8", errors="surrogateescape")
@@ -142,3 +146,18 @@ def write(words: Sequence[str] | None = None) -> str:
         return text.removesuffix("\n")
     write_whole(given.output, text.encode("utf-8", "surrogateescape"))
     return f"{given.output}: {text.count(chr(10))} lines"
+
+
+def is_asked(words: Sequence[str] | None) -> bool:
+    """Whether the words of `diag-netlist` ask for this."""
+    return "--wcnf" in (sys.argv[1:] if words is None else words)
+
+
+def main(words: Sequence[str] | None = None) -> int:
+    """Does what the words say, and gives the exit status."""
+    interrupts.raise_again()
+    try:
+        print(write(words), flush=True)
+    except DiagError as error:
+        sys.exit(f"diag-netlist: {sentence(error)}")
+    return 0

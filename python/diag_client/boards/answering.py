@@ -14,12 +14,13 @@ from collections.abc import Iterable, Iterator, Mapping, Sequence
 from typing import Any
 
 from ..errors import Ended, Inconsistent, Refused, sentence
+from ..readings import UNREAD, bit_of
 from .joint import JointProposal
 from ..replies import Request
 from ..service import LIMITS, Service
 from ..session import Session
 from .results import Outcome, answered, failed, refused
-from .stream import BOARD, DEVICE, NAMING, PATTERN, BadReading, Board, Layout, Row
+from .stream import BOARD, DEVICE, NAMING, PATTERN, BadReading, BoardRows, Layout, Row
 
 # So many boards are asked at once, while the replies to as many before them are read.
 AT_ONCE = 64
@@ -33,8 +34,6 @@ MOST_PATTERNS = LIMITS["sessions"][1] // 2 - 1
 NAME = "S"
 OPENED, TAKEN, CLOSED = f"{NAME} open", f"{NAME} ok", f"{NAME} closed"
 LISTED, NOTHING, BLAMED = f"{NAME} diag", f"{NAME} inconsistent", f"{NAME} blame "
-# What is written where nothing was read.
-NO_READING = ("", "X", "x", "Z", "z", "-")
 # How a program is lost.
 LOST = (Ended, TimeoutError)
 
@@ -88,7 +87,7 @@ class Columns:
         self._wires = {wire: wire for wire in wires} | dict(others)
         self._skipped = {*NAMING, *layout.ignored}
         self._tables = [self._table(column) for column in layout.columns]
-        self._by_name = {} if others else {name: self._of_wire(name, name) for name in self._wires} | {name: _AnyWord() for name in self._skipped}
+        self._by_name = {} if others else {name: self._of_wire(self._wires[name]) for name in self._wires} | {name: _AnyWord() for name in self._skipped}
         named = [self._wires[column] for column in layout.columns if column in self._wires and column not in self._skipped]
         self._has_pairs = len(set(named)) < len(named)
         # Wires that come after all names are looked up some at a time, as long as each cell is one sign.
@@ -102,6 +101,11 @@ class Columns:
     def unknown(self) -> list[str]:
         """The columns that are no wires."""
         return [column for column in self.layout.columns if column not in self._wires and column not in self._skipped]
+
+    @property
+    def clashing(self) -> list[str]:
+        """The columns that are wires too, although their names have another meaning in a table."""
+        return [column for column in self.layout.columns if column in self._wires and column in NAMING]
 
     def script(self, row: Row) -> str:
         """The lines of what was seen. Raises `BadReading`."""
@@ -124,13 +128,17 @@ class Columns:
         """The bits of the wires. Raises `BadReading`."""
         seen: dict[str, int] = {}
         for column, word in self._words(row):
-            if column in self._skipped or word in NO_READING:
+            if column in self._skipped:
+                continue
+            try:
+                bit = bit_of(word)
+            except ValueError as error:
+                raise BadReading(row[0], column, word, str(error)) from None
+            if bit is None:
                 continue
             if column not in self._wires:
                 raise BadReading(row[0], column, word, "a reading of no wire")
-            if word not in ("0", "1"):
-                raise BadReading(row[0], column, word, "not 0, 1 or a word for no reading")
-            if seen.setdefault(self._wires[column], int(word)) != int(word):
+            if seen.setdefault(self._wires[column], bit) != bit:
                 raise BadReading(row[0], column, word, "another reading of one wire with a column before it")
         return seen
 
@@ -142,7 +150,7 @@ class Columns:
         """Each column with what stands there."""
         if self.layout.is_json:
             for name, value in self.layout.object(row).items():
-                yield name, "" if value is None else value if isinstance(value, str) else str(int(value)) if value in (0, 1) else json.dumps(value)
+                yield name, "" if value is None else value if isinstance(value, str) else json.dumps(value)
             return
         columns, cells = self.layout.columns, [cell.strip() for cell in self.layout.cells(row)]
         while len(cells) > len(columns) and not cells[-1]:
@@ -153,14 +161,13 @@ class Columns:
         yield from zip(columns, cells, strict=True)
 
     def _table(self, column: str) -> dict[str, str]:
-        return _AnyWord() if column in self._skipped else self._of_wire(column, self._wires.get(column))
+        return _AnyWord() if column in self._skipped else self._of_wire(self._wires.get(column))
 
     @staticmethod
-    def _of_wire(column: str, wire: str | None) -> dict[Any, str]:
-        lines: dict[Any, str] = dict.fromkeys((None, *NO_READING), "")
-        if wire is not None:
-            for bit in (0, 1):
-                lines[bit] = lines[str(bit)] = f"see {NAME} {wire}={bit}\n"
+    def _of_wire(wire: str | None) -> dict[Any, str]:
+        lines: dict[Any, str] = dict.fromkeys([None, *UNREAD, *map(str.upper, UNREAD)], "")
+        for bit in (0, 1) if wire is not None else ():
+            lines[bit] = lines[str(bit)] = f"see {NAME} {wire}={bit}\n"
         return lines
 
 
@@ -258,7 +265,7 @@ class Desk:
             self._columns[layout] = Columns(layout, self._wires, self._others)
         return self._columns[layout]
 
-    def outcomes(self, layout: Layout, boards: Sequence[Board]) -> list[Outcome]:
+    def outcomes(self, layout: Layout, boards: Sequence[BoardRows]) -> list[Outcome]:
         """What is said of each board, in order."""
         columns = self.columns(layout)
         found: list[Outcome] = []
@@ -284,7 +291,7 @@ class Desk:
             service = Service(self._file, **self._wanted.options)
         return service
 
-    def _once_more(self, columns: Columns, board: Board) -> Outcome:
+    def _once_more(self, columns: Columns, board: BoardRows) -> Outcome:
         """A board at which the program was lost, or the time."""
         self._service.stop()
         try:
@@ -293,7 +300,7 @@ class Desk:
             self._service.stop()
             return failed(why(error))
 
-    def _asked(self, columns: Columns, boards: Sequence[Board]) -> Iterator[Outcome]:
+    def _asked(self, columns: Columns, boards: Sequence[BoardRows]) -> Iterator[Outcome]:
         """What is said of each board, as it comes. Raises what lost the program at the first one that is not answered."""
         if not self._service.is_running:
             self._service = self._started()
@@ -313,7 +320,7 @@ class Desk:
         for chunk in waiting:
             yield from self._settled(chunk, begun)
 
-    def _question(self, columns: Columns, board: Board) -> Question:
+    def _question(self, columns: Columns, board: BoardRows) -> Question:
         """What is asked of a board, or what is wrong with its rows."""
         try:
             _check_rows(board, columns.layout)
@@ -385,7 +392,7 @@ class Desk:
         return answered(cost, sets[:wanted.limit], len(sets) <= wanted.limit, **more)
 
 
-def _check_rows(board: Board, layout: Layout) -> None:
+def _check_rows(board: BoardRows, layout: Layout) -> None:
     """Raises `BadReading` if the rows are not those of one board."""
     if len(board.rows) > 1:
         devices = [layout.names(row)[1] for row in board.rows]

@@ -10,11 +10,11 @@ from collections.abc import Iterable, Iterator, Mapping
 from concurrent.futures import CancelledError, Future
 from typing import Any, Protocol
 
-from ..errors import shown
 from ..service import find_program
 from .answering import Wanted
 from .results import Result, failed
-from .stream import DEVICE, Board, Readings, UnusableReadings
+from .stream import BoardRows, Readings
+from .tables import BadTable
 from .workers import Answers, Batch, Device, Processes, UnusableCluster
 
 # A batch is to take so many seconds, and has at most so many boards; how long a board takes is known after the first, small ones.
@@ -23,7 +23,6 @@ MOST_BOARDS = 2000
 FIRST_BOARDS = 16
 # So many batches, and as many again for each worker, are under way or wait to be written.
 ROOM = 16
-MOST_SHOWN = 5
 NEEDED = "`pip install 'diag-client[cluster]'`, or Debian's python3-distributed"
 
 
@@ -73,13 +72,10 @@ class Answering:
     def check(self) -> None:
         """Raises what is wrong with the device, or with the columns of the table."""
         batch = Batch(self._wanted, self._readings.layout, {"": self._devices[""]}, ())
-        unknown = self._again("unknown_columns", batch)
-        # Another device may have the wires.
-        if unknown and DEVICE not in self._readings.layout.columns:
-            names = ", ".join(repr(shown(name)) for name in unknown[:MOST_SHOWN]) + (", .." if len(unknown) > MOST_SHOWN else "")
-            raise UnusableReadings(f"{self._readings.title}: the device has no wire {names}; `--ignore NAME` passes over a column")
+        if why := self._again("wrong_columns", batch):
+            raise BadTable(f"{self._readings.title}: {why}")
 
-    def answers(self, boards: Iterable[Board]) -> Iterator[tuple[Batch, Answers]]:
+    def answers(self, boards: Iterable[BoardRows]) -> Iterator[tuple[Batch, Answers]]:
         """What is said of these boards."""
         waiting: collections.deque[tuple[Batch, Future[Answers]]] = collections.deque()
         for batch in self._batches(boards):
@@ -89,8 +85,8 @@ class Answering:
         while waiting:
             yield waiting[0][0], self._taken(*waiting.popleft())
 
-    def _batches(self, boards: Iterable[Board]) -> Iterator[Batch]:
-        batch: list[Board] = []
+    def _batches(self, boards: Iterable[BoardRows]) -> Iterator[Batch]:
+        batch: list[BoardRows] = []
         for board in boards:
             batch.append(board)
             if len(batch) >= self._size:
@@ -99,7 +95,7 @@ class Answering:
         if batch:
             yield self._batch(batch)
 
-    def _batch(self, boards: list[Board]) -> Batch:
+    def _batch(self, boards: list[BoardRows]) -> Batch:
         devices = {name: self._device(name) for name in dict.fromkeys(board.device for board in boards)}
         return Batch(self._wanted, self._readings.layout, devices, boards)
 
@@ -166,7 +162,7 @@ def diagnose_boards(
     >>> for result in diagnose_boards("examples/c17.bench", rows, jobs=1):
     ...     print(result.board, result.status, result.cost, result.diagnoses, result.reason)
     B1 ok 1 (('10',), ('22',)) None
-    B2 refused None () line 2, column 22: not 0, 1 or a word for no reading: '2'
+    B2 refused None () line 2, column 22: a reading is 0 or 1, and X, Z, - or nothing if there is none: '2'
     """
     table = Readings(readings, ignore)
     pool = make_pool(jobs, cluster)

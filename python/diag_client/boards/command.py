@@ -14,7 +14,8 @@ from .batch import Answering, make_pool, wanted_of
 from .cross_check import CrossCheck
 from .resume import STANDARD_OUTPUT, ResultsFile, UnusableResults
 from .results import FlatTable, Tally
-from .stream import Readings, UnusableReadings
+from .stream import Readings
+from .tables import BadTable
 
 # The exit status for what can never be done, as for wrong words.
 WRONG = 2
@@ -99,7 +100,7 @@ def run(words: argparse.Namespace) -> int:
     except KeyboardInterrupt:
         _say(f"interrupted; {_state(words, tally)}")
         return interrupts.STATUS
-    except (UnusableReadings, UnusableResults) as error:
+    except (BadTable, UnusableResults) as error:
         _say(as_options(sentence(error)))
         return WRONG
     except BrokenPipeError:

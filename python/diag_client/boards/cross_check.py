@@ -12,7 +12,7 @@ from typing import Any
 from ..devices import GATES, copies, other_names, read_device, wires_of
 from ..errors import DiagError, shown
 from .answering import Columns
-from .stream import Board, Layout
+from .stream import BoardRows, Layout
 
 NEEDED = ("gringo", "clasp")
 # clasp may take so many seconds for a board.
@@ -103,7 +103,7 @@ class CrossCheck:
         self._threads = ThreadPoolExecutor()
         self.compared = self.differing = self.left_out = 0
 
-    def differences(self, boards: Iterable[tuple[str, Board]], lines: Iterable[bytes]) -> Iterator[str]:
+    def differences(self, boards: Iterable[tuple[str, BoardRows]], lines: Iterable[bytes]) -> Iterator[str]:
         """What differs, in words: of boards, each with the path of its device, and of their results."""
         pairs = [(path, board, json.loads(line)) for (path, board), line in zip(boards, lines, strict=True)]
         asked = [(path, board, result) for path, board, result in pairs if "reason" not in result]
@@ -135,7 +135,7 @@ class CrossCheck:
             self._known[path] = program_of(path, self._frames), columns
         return self._known[path]
 
-    def _found(self, asked: tuple[str, Board, dict[str, Any]]) -> tuple[int | None, set[frozenset[str]]] | None:
+    def _found(self, asked: tuple[str, BoardRows, dict[str, Any]]) -> tuple[int | None, set[frozenset[str]]] | None:
         path, board, result = asked
         program, columns = self._device(path)
         # One more shows whether these are all.

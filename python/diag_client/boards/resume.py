@@ -14,7 +14,7 @@ from typing import Any
 from ..child import interrupts_held_back
 from ..errors import DiagError, shown
 from .results import KEYS, FlatTable, Tally
-from .stream import Board
+from .stream import BoardRows
 
 STANDARD_OUTPUT = "-"
 # How each line of JSON begins.
@@ -53,7 +53,7 @@ class ResultsFile:
             os.close(self._file)
             raise
 
-    def answered(self, boards: Iterator[Board], tally: Tally) -> None:
+    def answered(self, boards: Iterator[BoardRows], tally: Tally) -> None:
         """Takes the boards that are in the file, and counts them. What comes after the last whole line of a board is cut off."""
         header = b"" if self._table is None else self._table.header
         if self._is_plain:
@@ -134,7 +134,7 @@ class ResultsFile:
             return None
         raise UnusableResults(f"{self.path}: line {number} is no result of this run; give another name by -o")
 
-    def _compare(self, number: int, found: dict[str, Any], board: Board | None) -> None:
+    def _compare(self, number: int, found: dict[str, Any], board: BoardRows | None) -> None:
         """Raises an error if a line is not of this board, or was asked otherwise."""
         there = "no more boards" if board is None else f"board {shown(board.name)!r}"
         if board is None or found["board"] != board.name:

@@ -2,7 +2,6 @@
 
 from __future__ import annotations
 
-import codecs
 import collections
 import contextlib
 import csv
@@ -13,32 +12,21 @@ import itertools
 import json
 import os
 import pathlib
-import re
 import sys
 from collections.abc import Iterable, Iterator, Mapping
 from typing import IO, Any, NamedTuple
 
 from ..errors import DiagError, shown
 from ..session import BLANKS
+from .tables import COMMENT, NAME, SEPARATOR, UTF_16, ZIP, BadTable, sign_in
 
 # The columns that name the board, its pattern and its device. Each other column, unless it is ignored, is a wire.
-BOARD, PATTERN, DEVICE = "board", "pattern", "device"
+BOARD, PATTERN, DEVICE = "board", NAME, "device"
 NAMING = (BOARD, PATTERN, DEVICE)
-SIGNS = ",;\t"
-# What some programs write before the first row: the sign between cells.
-SIGN_LINE = re.compile("sep=(.)", re.IGNORECASE)
-# The begin of a workbook (.xlsx, .ods), and of text in UTF-16.
-ZIP = b"PK\x03\x04"
-UTF_16 = (codecs.BOM_UTF16_LE, codecs.BOM_UTF16_BE)
 # A quote that is not closed within so many lines was never meant to be.
 LONGEST_CELL = 20
-MARK = "#"
 
 Row = tuple[int, str]
-
-
-class UnusableReadings(DiagError, ValueError):
-    """Nothing can be read from a table of readings, as a whole. The text has the line and the column, if it is about one."""
 
 
 class BadReading(DiagError):
@@ -56,7 +44,7 @@ class BadReading(DiagError):
         return f"{where}: {self.what}" + ("" if self.word is None else f": {shown(self.word)!r}")
 
 
-class Board(NamedTuple):
+class BoardRows(NamedTuple):
     """The rows of one board, each with the number of its line, as they are written."""
 
     name: str
@@ -80,6 +68,8 @@ class Layout:
     def cells(self, row: Row) -> list[str]:
         """The cells of a row, with the blanks around them."""
         line, text = row
+        if self.sign == " ":
+            return text.split()
         if '"' not in text:
             return text.split(self.sign)
         try:
@@ -111,13 +101,10 @@ class Layout:
                 return "", ""
             return (_plain(found[BOARD]) if BOARD in found else None), _plain(found.get(DEVICE))
         board, device, most = self._places
-        if '"' in row[1]:
-            try:
-                cells = self.cells(row)
-            except BadReading:
-                cells = row[1].split(self.sign)
-        else:
-            cells = row[1].split(self.sign, most)
+        try:
+            cells = self.cells(row) if '"' in row[1] or self.sign == " " else row[1].split(self.sign, most)
+        except BadReading:
+            cells = row[1].split(self.sign)
         return (None if board is None else _at(cells, board)), ("" if device is None else _at(cells, device))
 
     @functools.cached_property
@@ -156,7 +143,7 @@ class Readings:
             self._lines = ((number, json.dumps(row)) for number, row in enumerate(source, 1))
             self.layout = Layout(ignored=self._ignored)
 
-    def __iter__(self) -> Iterator[Board]:
+    def __iter__(self) -> Iterator[BoardRows]:
         name, device, number = "", "", 0
         rows: list[Row] = []
         for row in self._rows():
@@ -166,10 +153,10 @@ class Readings:
                 rows.append(row)
                 continue
             if rows:
-                yield Board(name, device, tuple(rows))
+                yield BoardRows(name, device, tuple(rows))
             name, device, rows = str(number) if board is None else board, of, [row]
         if rows:
-            yield Board(name, device, tuple(rows))
+            yield BoardRows(name, device, tuple(rows))
 
     @property
     def share(self) -> float | None:
@@ -194,7 +181,7 @@ class Readings:
         buffered = io.BufferedReader(raw, 1 << 18)
         begin = buffered.peek(len(ZIP))
         if begin.startswith(ZIP):
-            raise UnusableReadings(f"{self.title}: a workbook or an archive, and no comma-separated values: save the sheet as CSV")
+            raise BadTable(f"{self.title}: a workbook or an archive, and no comma-separated values: save the sheet as CSV")
         encoding, errors = ("utf-16", "replace") if begin.startswith(UTF_16) else ("utf-8-sig", "surrogateescape")
         return io.TextIOWrapper(buffered, encoding, errors)
 
@@ -202,16 +189,18 @@ class Readings:
         """What the first row says, or that there are objects from the first row on."""
         first = next(self._rows_among(self._lines, ""), None)
         if first is None:
-            raise UnusableReadings(f"{self.title}: no rows: a first row with the names of wires is needed, and then a row for each board")
+            raise BadTable(f"{self.title}: no rows: a first row with the names of wires is needed, and then a row for each board")
         self._lines = itertools.chain([first], self._lines)
         if first[1].lstrip(BLANKS).startswith("{"):
             return Layout(ignored=self._ignored)
         self._lines = _joined(self._lines)
-        row, sign = next(self._lines), ""
-        if SIGN_LINE.fullmatch(text := row[1].strip(" ")):
-            row, sign = next(self._rows_among(self._lines, ""), (row[0], "")), text[-1]
-        sign = sign or next((sign for sign in SIGNS if sign in row[1]), ",")
-        columns = [cell.strip(BLANKS) for cell in Layout((), sign).cells(row)]
+        row = next(self._lines)
+        told = SEPARATOR.fullmatch(row[1].strip(" "))
+        if told:
+            row = next(self._rows_among(self._lines, ""), (row[0], ""))
+        sign = told[1] if told else sign_in(row[1].strip())
+        names = [cell.strip(BLANKS) for cell in Layout((), sign).cells(row)]
+        columns = [name.lower() if name.lower() in NAMING else name for name in names]
         while columns and not columns[-1]:
             columns.pop()
         self._check(row[0], columns)
@@ -220,9 +209,9 @@ class Readings:
     def _check(self, line: int, columns: list[str]) -> None:
         for place, name in enumerate(columns, 1):
             if name in columns[:place - 1]:
-                raise UnusableReadings(f"{self.title}: line {line}, column {place}: a second column {shown(name)!r}")
+                raise BadTable(f"{self.title}: line {line}, column {place}: a second column {shown(name)!r}")
         if PATTERN in columns and BOARD not in columns:
-            raise UnusableReadings(f"{self.title}: line {line}: a column `{PATTERN}` needs a column `{BOARD}`")
+            raise BadTable(f"{self.title}: line {line}: a column `{PATTERN}` needs a column `{BOARD}`")
 
     def _rows(self) -> Iterator[Row]:
         return self._rows_among(self._lines, self.layout.sign)
@@ -232,8 +221,7 @@ class Readings:
         """Those that say something."""
         empty = BLANKS + sign
         for row in rows:
-            text = row[1].strip(empty)
-            if text and not text.startswith(MARK):
+            if row[1].strip(empty) and not row[1].startswith(COMMENT):
                 yield row
 
 

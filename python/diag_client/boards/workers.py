@@ -21,13 +21,15 @@ from collections.abc import Iterator, Mapping, Sequence
 from concurrent.futures import Future, ThreadPoolExecutor
 from typing import Any
 
-from ..errors import DiagError, Ended, NotBuilt
+from ..errors import DiagError, Ended, NotBuilt, shown
 from .answering import Desk, Wanted, why
 from .results import Outcome, Tally, failed
-from .stream import Board, Layout
+from .stream import DEVICE, BoardRows, Layout
 
 # So many programs at most are kept by one worker: one for each device that it had last.
 MOST_DESKS = 32
+# So many columns that are wrong are named.
+MOST_SHOWN = 5
 # What a worker runs. It takes this package from where this process has it, and nothing from the folder that it is started in.
 START = "import sys; sys.path.insert(0, sys.argv[1]); from diag_client.boards import workers; workers.main()"
 # So many seconds a worker that is asked nothing more may take to end.
@@ -84,7 +86,7 @@ class Batch:
     wanted: Wanted
     layout: Layout
     devices: Mapping[str, Device]
-    boards: Sequence[Board]
+    boards: Sequence[BoardRows]
 
     def __reduce__(self) -> tuple[Any, ...]:
         # Plain tuples are packed and unpacked much faster.
@@ -96,7 +98,7 @@ class Batch:
 
 
 def _batch(wanted: Wanted, layout: Layout, devices: Mapping[str, Device], boards: Sequence[tuple[Any, ...]]) -> Batch:
-    return Batch(wanted, layout, devices, list(map(Board._make, boards)))
+    return Batch(wanted, layout, devices, list(map(BoardRows._make, boards)))
 
 
 @dataclasses.dataclass
@@ -108,7 +110,7 @@ class Answers:
     seconds: float = 0.0
 
     @classmethod
-    def of(cls, boards: Sequence[Board], outcomes: Sequence[Outcome], seconds: float = 0.0) -> Answers:
+    def of(cls, boards: Sequence[BoardRows], outcomes: Sequence[Outcome], seconds: float = 0.0) -> Answers:
         """What is said of these boards."""
         lines = [outcome.line(board.name) for board, outcome in zip(boards, outcomes, strict=True)]
         tally = Tally()
@@ -176,10 +178,17 @@ def _opened(file: str, wanted: Wanted) -> Desk:
 DESKS = _Desks()
 
 
-def unknown_columns(batch: Batch, run: str = "") -> list[str]:
-    """The columns of a table that are no wires of the one device of a batch. Raises what its program says against the device."""
+def wrong_columns(batch: Batch, run: str = "") -> str:
+    """What is wrong with the columns of a table for the one device of a batch. Raises what its program says against the device."""
     device, = batch.devices.values()
-    return DESKS.get(run, device, batch.wanted).columns(batch.layout).unknown
+    columns = DESKS.get(run, device, batch.wanted).columns(batch.layout)
+    if columns.clashing:
+        return f"the device has a wire {columns.clashing[0]}, and a column of that name is none here"
+    # Another device may have the wires.
+    if columns.unknown and DEVICE not in batch.layout.columns:
+        names = ", ".join(repr(shown(name)) for name in columns.unknown[:MOST_SHOWN]) + (", .." if len(columns.unknown) > MOST_SHOWN else "")
+        return f"no wire {names}; --ignore NAME passes over a column"
+    return ""
 
 
 def stop(run: str) -> None:
@@ -198,7 +207,7 @@ def answer(batch: Batch, run: str = "") -> Answers:
     return Answers.of(batch.boards, [outcomes[place] for place in range(len(batch.boards))], time.monotonic() - begun)
 
 
-def _of_device(run: str, batch: Batch, device: Device, boards: Sequence[Board]) -> list[Outcome]:
+def _of_device(run: str, batch: Batch, device: Device, boards: Sequence[BoardRows]) -> list[Outcome]:
     try:
         return DESKS.get(run, device, batch.wanted).outcomes(batch.layout, boards)
     except NotBuilt:

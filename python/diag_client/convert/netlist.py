@@ -12,6 +12,7 @@ from .. import interrupts
 from ..devices import MADE, MADE_BY, NAMES, is_made_here
 from ..errors import DiagError, sentence
 from ..files import drop_unwritten, open_streams, write_whole
+from . import weighted
 from .circuit import Circuit, Node, UnusableNetlist, kind_of
 from .readers import READERS, TABLES, TO_PLAIN_CELLS
 
@@ -174,6 +175,8 @@ def main(words: Sequence[str] | None = None) -> int:
     parser.add_argument("-o", "--output", metavar="OUT", type=pathlib.Path, help="a .bench or .dev; else FILE with that ending")
     open_streams()
     try:
+        if weighted.is_asked(words):
+            return weighted.main(words)
         try:
             given = parser.parse_args(words)
         finally:

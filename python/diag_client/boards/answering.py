@@ -225,10 +225,12 @@ def _by_verdict(rows: Iterable[Sequence[str]]) -> dict[str, list[str]]:
     return blamed
 
 
-def why(error: Exception) -> str:
+def why(error: Exception, timeout: float | None = None) -> str:
     """Why a board has no answer, in words that are the same on each machine."""
+    if isinstance(error, TimeoutError):
+        return f"no answer within {timeout:g} seconds"
     if not isinstance(error, Ended):
-        return sentence(error).split(";")[0]
+        return sentence(error)
     how = f"status {error.status}" if error.status >= 0 else f"signal {-error.status} ({signal.strsignal(-error.status)})"
     return f"the program ended with {how}" + (f": {error.last_line}" if error.status > 0 and error.last_line else "")
 
@@ -298,7 +300,7 @@ class Desk:
             return next(self._asked(columns, [board]))
         except LOST as error:
             self._service.stop()
-            return failed(why(error))
+            return failed(why(error, self._wanted.timeout))
 
     def _asked(self, columns: Columns, boards: Sequence[BoardRows]) -> Iterator[Outcome]:
         """What is said of each board, as it comes. Raises what lost the program at the first one that is not answered."""

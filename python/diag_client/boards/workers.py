@@ -257,6 +257,9 @@ class _Worker:
                 process.wait(patience)
             process.kill()
             process.wait()
+            for end in (process.stdin, process.stdout):
+                with contextlib.suppress(OSError):
+                    end and end.close()
 
     def _running(self) -> subprocess.Popen[bytes]:
         with self._lock:

@@ -15,7 +15,7 @@ from typing import Any
 
 from ..errors import Ended, Inconsistent, Refused, sentence
 from ..readings import UNREAD, bit_of
-from .joint import JointProposal
+from .joint import Joint, JointProposal
 from ..replies import Request
 from ..service import LIMITS, Service
 from ..session import Session
@@ -87,7 +87,9 @@ class Columns:
         self._wires = {wire: wire for wire in wires} | dict(others)
         self._skipped = {*NAMING, *layout.ignored}
         self._tables = [self._table(column) for column in layout.columns]
-        self._by_name = {} if others else {name: self._of_wire(self._wires[name]) for name in self._wires} | {name: _AnyWord() for name in self._skipped}
+        self._by_name: dict[str, dict[Any, str]] = {name: _AnyWord() for name in self._skipped}
+        if not others:
+            self._by_name = {name: self._of_wire(name) for name in self._wires} | self._by_name
         named = [self._wires[column] for column in layout.columns if column in self._wires and column not in self._skipped]
         self._has_pairs = len(set(named)) < len(named)
         # Wires that come after all names are looked up some at a time, as long as each cell is one sign.
@@ -199,7 +201,7 @@ class Asked(Request):
         told = self._lines[first:-1]
         return told if told and self._lines[0] == OPENED and self._lines[1:first].count(TAKEN) == self._seen else None
 
-    def refusal(self) -> Outcome:
+    def unexpected(self) -> Outcome:
         """What is said if something was refused."""
         wrong = next((line for line in self._lines if line not in (OPENED, TAKEN, CLOSED)), self._lines[0])
         return failed(f"unexpected reply: {wrong}")
@@ -348,7 +350,7 @@ class Desk:
             self._service.wait_for(asked)
         told = asked.reply()
         if told is None:
-            return asked.refusal()
+            return asked.unexpected()
         key = "\n".join(told)
         outcome = self._known.get(key)
         if outcome is None:
@@ -379,7 +381,9 @@ class Desk:
         service.limit(next(limits))
         service.do([session.opening() for session in sessions])
         service.do([line for session, pattern in sessions.items() for line in session.seeing(pattern.seen)])
-        asked = next(iter(sessions)) if len(sessions) == 1 else service.together(sessions, timeout=next(limits))
+        asked: Session | Joint = next(iter(sessions))
+        if len(sessions) > 1:
+            asked = service.together(sessions, timeout=next(limits))
         cost = asked.minimum().cost
         service.limit(next(limits))
         sets = [list(found) for found in asked.diagnoses(wanted.limit + 1)]

@@ -29,8 +29,11 @@ NEEDED = "`pip install 'diag-client[cluster]'`, or Debian's python3-distributed"
 class Pool(Protocol):
     """What answers batches, side by side."""
 
-    size: int
     lost: tuple[type[Exception], ...]
+
+    @property
+    def size(self) -> int:
+        """How many batches are answered at a time."""
 
     def device(self, path: str) -> Device:
         """A device as the workers get it."""

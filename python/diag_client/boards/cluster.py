@@ -3,17 +3,18 @@
 from __future__ import annotations
 
 import contextlib
+import importlib
 import uuid
 from concurrent.futures import Future
 from typing import Any
-
-import distributed
 
 from ..errors import sentence
 from ..service import find_program
 from . import workers
 from .workers import Batch, Device, UnusableCluster
 
+# It is no part of the package, and has no types.
+distributed: Any = importlib.import_module("distributed")
 # So many seconds the scheduler may take to answer, and the first worker to be there.
 PATIENCE = 30
 
@@ -46,7 +47,7 @@ class Cluster:
     @property
     def size(self) -> int:
         """How many threads there are now."""
-        return sum(self._client.nthreads().values())
+        return sum(map(int, self._client.nthreads().values()))
 
     def device(self, path: str) -> Device:
         """A device as the workers get it."""

@@ -47,7 +47,8 @@ def add_words(parser: argparse.ArgumentParser) -> None:
     parser.add_argument("--blame", action="store_true", help="say which parts are faulty in all sets, and in some")
     parser.add_argument("--next", action="store_true", help="say which wire is best measured next")
     parser.add_argument("--seconds", action="store_true", help="say how long each board took")
-    parser.add_argument("--summary", action="store_true", help="print how many boards have which status, and the parts suspected most often")
+    summary = "print how many boards have which status, and the parts suspected most often"
+    parser.add_argument("--summary", action="store_true", help=summary)
     parser.add_argument("--ignore", action="append", default=[], metavar="NAME", help="a column that is no wire; may be given again")
     parser.add_argument("--timeout", type=_seconds, metavar="S", help="a board may take S seconds")
     parser.add_argument("--jobs", type=_from_one, metavar="N", help="use N processes of the program; else one for each processor")
@@ -135,7 +136,8 @@ def _answer(words: argparse.Namespace, readings: Readings, tally: Tally, stack: 
         results.write(flat.rows(answers.lines) if flat else answers.lines)
         tally.add(answers.tally)
         if check is not None:
-            for text in check.differences([(batch.devices[board.device].path, board) for board in batch.boards], answers.lines.splitlines()):
+            boards_of = [(batch.devices[board.device].path, board) for board in batch.boards]
+            for text in check.differences(boards_of, answers.lines.splitlines()):
                 progress.clear()
                 _say(text)
         progress.show(tally.boards)

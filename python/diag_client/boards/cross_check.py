@@ -119,7 +119,8 @@ class CrossCheck:
             is_same = cost == result["cost"] and (listed == sets if result["complete"] else listed <= sets or len(sets) > self._limit)
             if not is_same:
                 self.differing += 1
-                yield f"board {shown(board.name)}: cost {result['cost']} and {len(listed)} sets here, cost {cost} and {len(sets)} sets by clasp"
+                here = f"cost {result['cost']} and {len(listed)} sets here"
+                yield f"board {shown(board.name)}: {here}, cost {cost} and {len(sets)} sets by clasp"
 
     def text(self) -> str:
         """The counts."""

@@ -44,8 +44,9 @@ class Result:
     @classmethod
     def of(cls, line: bytes | str) -> Result:
         """What a line of results says."""
-        found = json.loads(line)
-        return cls(**{**found, "diagnoses": tuple(tuple(names) for names in found["diagnoses"])})
+        found: dict[str, Any] = json.loads(line)
+        found["diagnoses"] = tuple(tuple(names) for names in found["diagnoses"])
+        return cls(**found)
 
 
 @dataclasses.dataclass(frozen=True, eq=False)
@@ -105,7 +106,7 @@ class FlatTable:
     def read(self, row: str) -> dict[str, Any]:
         """What a row says, as far as it is counted. Raises ValueError if it is none."""
         try:
-            found = dict(zip(self.columns, next(csv.reader([row], strict=True)), strict=True))
+            found: dict[str, Any] = dict(zip(self.columns, next(csv.reader([row], strict=True)), strict=True))
         except (csv.Error, StopIteration) as error:
             raise ValueError(str(error)) from None
         if found["status"] not in STATUSES:
@@ -116,7 +117,7 @@ class FlatTable:
 
     @staticmethod
     def _flat(result: Mapping[str, Any]) -> dict[str, Any]:
-        flat = {**result, "diagnoses": ", ".join(" ".join(names) for names in result["diagnoses"]), "complete": str(result["complete"]).lower()}
+        flat = {**result, "diagnoses": ", ".join(map(" ".join, result["diagnoses"])), "complete": str(result["complete"]).lower()}
         flat |= {verdict: " ".join(names) for verdict, names in (result.get("blame") or {}).items()}
         following = result.get("next") or {}
         return flat | {"next": following.get("wire"), "next_pattern": following.get("pattern")}

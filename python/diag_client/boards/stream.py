@@ -136,7 +136,7 @@ class Readings:
         if isinstance(source, (str, os.PathLike)):
             self.title = os.fspath(source)
             self.folder = pathlib.Path(source).parent if self.title != "-" else pathlib.Path()
-            self._lines = ((number, line.rstrip("\r\n")) for number, line in enumerate(self._opened(), 1))
+            self._lines: Iterator[Row] = ((number, line.rstrip("\r\n")) for number, line in enumerate(self._opened(), 1))
             self.layout = self._read_layout()
         else:
             self.title, self.folder = "the readings", pathlib.Path()
@@ -230,7 +230,9 @@ def _joined(rows: Iterator[Row]) -> Iterator[Row]:
     waiting: collections.deque[Row] = collections.deque()
 
     def following() -> Row | None:
-        return waiting.popleft() if waiting else next(rows, None)
+        if waiting:
+            return waiting.popleft()
+        return next(rows, None)
 
     while (row := following()) is not None:
         more: list[Row] = []

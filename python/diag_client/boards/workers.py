@@ -90,7 +90,7 @@ class Batch:
 
     def __reduce__(self) -> tuple[Any, ...]:
         # Plain tuples are packed and unpacked much faster.
-        return _batch, (self.wanted, self.layout, self.devices, list(map(tuple, self.boards)))
+        return _batch, (self.wanted, self.layout, self.devices, [tuple(board) for board in self.boards])
 
     def each(self) -> list[Batch]:
         """A batch for each board."""
@@ -186,8 +186,8 @@ def wrong_columns(batch: Batch, run: str = "") -> str:
         return f"the device has a wire {columns.clashing[0]}, and a column of that name is none here"
     # Another device may have the wires.
     if columns.unknown and DEVICE not in batch.layout.columns:
-        names = ", ".join(repr(shown(name)) for name in columns.unknown[:MOST_SHOWN]) + (", .." if len(columns.unknown) > MOST_SHOWN else "")
-        return f"no wire {names}; --ignore NAME passes over a column"
+        names = [repr(shown(name)) for name in columns.unknown[:MOST_SHOWN]] + [".."] * (len(columns.unknown) > MOST_SHOWN)
+        return f"no wire {', '.join(names)}; --ignore NAME passes over a column"
     return ""
 
 

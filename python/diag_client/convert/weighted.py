@@ -1,7 +1,7 @@
 """`diag-netlist --wcnf FILE CASE`: writes a case over a device as weighted CNF, as the MaxSAT evaluations have it, for other tools.
 
-The clauses are those of docs/definitions/clauses.md. A variable for each part is true if the part is ok, and to let one be false costs what its
-failure costs. So what an optimum costs is the least cost of a set of faulty parts.
+The clauses are those of docs/definitions/clauses.md. A part has a variable that is true if it is ok, and to let it be false costs what the
+failure of the part costs. So what an optimum costs is the least cost of a set of faulty parts.
 """
 
 from __future__ import annotations
@@ -14,8 +14,8 @@ from collections.abc import Iterator, Mapping, Sequence
 
 from .. import interrupts
 from ..case import Case
-from ..devices import FLIP_FLOP, GATES, Device, Gate, Part, Reduction, Type, copies, read_device, wires_of
-from ..errors import DiagError, sentence, shown
+from ..devices import FLIP_FLOP, GATES, Device, Gate, Part, Reduction, Type, copies, other_names, read_device, wires_of
+from ..errors import BadScript, DiagError, sentence, shown
 from ..files import write_whole
 
 Clause = list[int]
@@ -97,7 +97,8 @@ class Clauses:
 
     def of_case(self, case: Case) -> list[Clause]:
         """What was seen and held. Raises DiagError for a name that the device has not."""
-        return [*_units("wire", self.wires, case.seen), *_units("part", self.parts, {name: mode == "ok" for name, mode in case.held.items()})]
+        held = {name: mode == "ok" for name, mode in case.held.items()}
+        return [*_units("wire", self.wires, case.seen), *_units("part", self.parts, held)]
 
 
 def _units(noun: str, variables: Mapping[str, int], known: Mapping[str, int]) -> Iterator[Clause]:
@@ -111,7 +112,8 @@ def text_of(made: Clauses, case: Case, title: str) -> str:
     """The weighted CNF: comments say which variable is what."""
     hard, top = made.clauses + made.of_case(case), sum(made.costs) + 1
     lines = [f"c {title}", "c a part's variable is true if the part is ok; an optimum is the least cost of a set of faulty parts"]
-    lines += [f"c part {number} {name}" for name, number in made.parts.items()] + [f"c wire {number} {name}" for name, number in made.wires.items()]
+    for noun, variables in (("part", made.parts), ("wire", made.wires)):
+        lines += [f"c {noun} {number} {name}" for name, number in variables.items()]
     lines.append(f"p wcnf {made.count} {len(made.parts) + len(hard)} {top}")
     lines += [f"{cost} {number} 0" for cost, number in zip(made.costs, made.parts.values(), strict=True)]
     lines += [" ".join(map(str, [top, *clause, 0])) for clause in hard]
@@ -119,13 +121,14 @@ def text_of(made: Clauses, case: Case, title: str) -> str:
 
 
 def _words() -> argparse.ArgumentParser:
-    parser = argparse.ArgumentParser(prog="diag-netlist --wcnf", description="Writes a case over a device as weighted CNF, for MaxSAT solvers.")
+    description = "Writes a case over a device as weighted CNF, for MaxSAT solvers."
+    parser = argparse.ArgumentParser(prog="diag-netlist --wcnf", description=description)
     parser.add_argument("--wcnf", action="store_true", help=argparse.SUPPRESS)
     parser.add_argument("file", metavar="FILE", type=pathlib.Path, help="a netlist (.bench) or a design (.dev)")
     parser.add_argument("case", metavar="CASE", help="a script, whose lines `see` and `hold` say the case; - is standard input")
     parser.add_argument("-o", "--output", metavar="OUT", type=pathlib.Path, help="the file that is written; else standard output")
     parser.add_argument("--session", metavar="S", help="the session whose case it is; else the one that the script names last")
-    parser.add_argument("--frames", type=int, metavar="F", choices=range(1, MOST_FRAMES + 1), help="over F times, of a netlist with flip-flops")
+    parser.add_argument("--frames", type=int, metavar="F", choices=range(1, MOST_FRAMES + 1), help="serve flip-flops over F times")
     return parser
 
 
@@ -140,7 +143,11 @@ def write(words: Sequence[str] | None = None) -> str:
         raise DiagError(f"{given.file}: the netlist has flip-flops: give --frames F, the number of clock periods that are seen")
     opened = sys.stdin if given.case == "-" else open(given.case, encoding="utf-8", errors="surrogateescape")
     with opened as script:
-        case = Case.from_script(script, given.session)
+        others = other_names(given.file, given.frames)
+        try:
+            case = Case.from_script(script, given.session, lambda _, name: others.get(name, name))
+        except BadScript as error:
+            raise DiagError(f"{given.case}: {error}") from None
     text = text_of(Clauses(device, given.frames), case, f"{given.file.name} with the case of {given.case}")
     if given.output is None:
         return text.removesuffix("\n")

@@ -5,13 +5,13 @@ from __future__ import annotations
 import collections
 import contextlib
 import os
-import sys
 from collections.abc import Iterable, Iterator, Mapping
 from concurrent.futures import CancelledError, Future
 from typing import Any, Protocol
 
 from ..service import find_program
 from .answering import Wanted
+from .cluster import Cluster
 from .results import Result, failed
 from .stream import BoardRows, Readings
 from .tables import BadTable
@@ -23,7 +23,6 @@ MOST_BOARDS = 2000
 FIRST_BOARDS = 16
 # So many batches, and as many again for each worker, are under way or wait to be written.
 ROOM = 16
-NEEDED = "`pip install 'diag-client[cluster]'`, or Debian's python3-distributed"
 
 
 class Pool(Protocol):
@@ -52,13 +51,7 @@ def processors() -> int:
 
 def make_pool(jobs: int | None, cluster: str | None) -> Pool:
     """The workers: processes on this machine, or those of a cluster."""
-    if cluster is None:
-        return Processes(processors() if jobs is None else jobs)
-    try:
-        from .cluster import Cluster
-    except ModuleNotFoundError:
-        raise UnusableCluster(f"a cluster needs dask.distributed for {sys.executable}: {NEEDED}") from None
-    return Cluster(cluster)
+    return Processes(processors() if jobs is None else jobs) if cluster is None else Cluster(cluster)
 
 
 class Answering:

@@ -4,6 +4,7 @@ from __future__ import annotations
 
 import contextlib
 import importlib
+import sys
 import uuid
 from concurrent.futures import Future
 from typing import Any
@@ -13,10 +14,9 @@ from ..service import find_program
 from . import workers
 from .workers import Batch, Device, UnusableCluster
 
-# It is no part of the package, and has no types.
-distributed: Any = importlib.import_module("distributed")
 # So many seconds the scheduler may take to answer, and the first worker to be there.
 PATIENCE = 30
+NEEDED = "`pip install 'diag-client[cluster]'`, or Debian's python3-distributed"
 
 
 def program_of_worker() -> str:
@@ -27,11 +27,14 @@ def program_of_worker() -> str:
 class Cluster:
     """All workers of a cluster, by the address of its scheduler. Each of their threads serves the devices by a program of its own."""
 
-    lost: tuple[type[Exception], ...] = (distributed.KilledWorker,)
-
     def __init__(self, address: str) -> None:
         self._address = address
         self._run = uuid.uuid4().hex
+        try:
+            distributed: Any = importlib.import_module("distributed")
+        except ModuleNotFoundError:
+            raise UnusableCluster(f"a cluster needs dask.distributed for {sys.executable}: {NEEDED}") from None
+        self.lost: tuple[type[Exception], ...] = (distributed.KilledWorker,)
         try:
             self._client = distributed.Client(address, timeout=PATIENCE, set_as_default=False)
             self._client.wait_for_workers(1, timeout=PATIENCE)

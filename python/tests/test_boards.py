@@ -339,5 +339,46 @@ class NothingIsLost(Case):
         self.assertEqual(self.results.read_bytes().count(b"\n"), 3)
 
 
+@needs_program
+class OnACluster(Case):
+    """Workers of Dask, here on this machine; `bench/boards hosts` has two hosts."""
+
+    def setUp(self):
+        super().setUp()
+        bench = loaded(TOP / "bench/boards")
+        self.python = bench.dask_python()
+        if self.python is None:
+            self.skipTest("no Python here has dask.distributed")
+        self.environment = bench.ENVIRONMENT
+        self.scheduler = self.folder / "scheduler.json"
+        self.start("dask_scheduler", "--host", "127.0.0.1", "--port", "0", "--no-dashboard", "--scheduler-file", self.scheduler)
+        wait_until(lambda: self.scheduler.exists() and self.scheduler.read_text().endswith("}"))
+        self.address = json.loads(self.scheduler.read_text())["address"]
+        words = ("--host", "127.0.0.1", "--nthreads", "1", "--no-nanny", "--no-dashboard")
+        self.workers = [self.start("dask_worker", self.address, *words) for _ in range(2)]
+
+    def start(self, module, *words):
+        words = [self.python, "-m", f"distributed.cli.{module}", *words]
+        with (self.folder / module).open("a") as log:
+            process = subprocess.Popen(words, env=self.environment, cwd=self.folder, stdout=log, stderr=log)
+        self.addCleanup(process.wait)
+        self.addCleanup(process.kill)
+        return process
+
+    def test_a_worker_that_dies(self):
+        """It costs no board, and the bytes are those of one process. The programs end with the run."""
+        rows = "".join(f"B{number},{number & 1},{number >> 1 & 1},{number >> 2 & 1},0,0,1,{number >> 3 & 1}\n" for number in range(60_000))
+        expected = self.run_boards(HEADER + rows, "--jobs", "1")[1].encode()
+        words = [self.python, *map(str, self.words("-", "-o", self.results, "--cluster", self.address)[1:])]
+        run = subprocess.Popen(words, stdin=subprocess.PIPE, env=self.environment, stderr=subprocess.PIPE)
+        text = HEADER + rows
+        run.stdin.write(text[:len(text) // 2].encode())
+        wait_until(lambda: self.results.exists() and self.results.stat().st_size)
+        self.workers[0].kill()
+        _, said = run.communicate(text[len(text) // 2:].encode())
+        self.assertEqual((run.returncode, self.results.read_bytes() == expected), (0, True), said.decode())
+        self.assertFalse(loaded(TOP / "bench/boards").children(self.workers[1].pid))
+
+
 if __name__ == "__main__":
     unittest.main()

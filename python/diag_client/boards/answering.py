@@ -22,8 +22,9 @@ from ..session import Session
 from .results import Outcome, answered, failed, refused
 from .stream import BOARD, DEVICE, NAMING, PATTERN, BadReading, BoardRows, Layout, Row
 
-# So many boards are asked at once, while the replies to as many before them are read.
+# So many boards are asked at once, while the replies to as many before them are read; and so many seconds are between two looks at these.
 AT_ONCE = 64
+NAP = 0.001
 # So many cells are looked up at a time.
 AT_A_TIME = 8
 # So many replies that several boards may have are kept, and texts of cells that several rows may have.
@@ -259,6 +260,8 @@ class Desk:
         self._wires = self._service.wires
         self._columns: dict[Layout, Columns] = {}
         self._known: dict[str, Outcome] = {}
+        # Whether many boards are asked at once.
+        self._is_plain = True
         blames = f"blame {NAME}\n" if wanted.blame else ""
         # One more shows whether these are all.
         self._ends = f"min {NAME}\nlist {NAME} {wanted.limit + 1}\n{blames}close {NAME}\n"
@@ -309,8 +312,8 @@ class Desk:
         if not self._service.is_running:
             self._service = self._started()
         self._service.limit(self._wanted.timeout)
-        is_plain = not (self._wanted.next or self._wanted.seconds) and all(len(board.rows) == 1 for board in boards)
-        size, ahead = (AT_ONCE, 1) if is_plain else (1, 0)
+        self._is_plain = not (self._wanted.next or self._wanted.seconds) and all(len(board.rows) == 1 for board in boards)
+        size, ahead = (AT_ONCE, 1) if self._is_plain else (1, 0)
         waiting: collections.deque[list[Question]] = collections.deque()
         for first in range(0, len(boards), size):
             begun = time.monotonic()
@@ -327,9 +330,9 @@ class Desk:
     def _question(self, columns: Columns, board: BoardRows) -> Question:
         """What is asked of a board, or what is wrong with its rows."""
         try:
-            _check_rows(board, columns.layout)
-            if len(board.rows) == 1 and not self._wanted.next:
+            if len(board.rows) == 1 and board.name and not self._wanted.next:
                 return Asked(columns.script(board.rows[0]), self._ends)
+            _check_rows(board, columns.layout)
             return [Pattern(columns.label(row) or f"p{place}", columns.seen(row)) for place, row in enumerate(board.rows, 1)]
         except BadReading as error:
             return error
@@ -347,6 +350,8 @@ class Desk:
     def _answered(self, asked: Asked) -> Outcome:
         """What is said of a board of one pattern. Boards with the same faults have the same replies."""
         if not asked.is_answered:
+            # Each piece of a reply that wakes this process may stop the program, whose replies may as well be read some at a time.
+            time.sleep(NAP if self._is_plain else 0)
             self._service.wait_for(asked)
         told = asked.reply()
         if told is None:

@@ -18,8 +18,8 @@ from .tables import BadTable
 from .workers import Answers, Batch, Device, Processes, UnusableCluster
 
 # A batch is to take so many seconds, and has at most so many boards; how long a board takes is known after the first, small ones.
-GOAL = 0.25
-MOST_BOARDS = 2000
+GOAL = 0.1
+MOST_BOARDS = 1000
 FIRST_BOARDS = 16
 # So many batches, and as many again for each worker, are under way or wait to be written.
 ROOM = 16

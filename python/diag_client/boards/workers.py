@@ -5,6 +5,7 @@ from __future__ import annotations
 import collections
 import contextlib
 import dataclasses
+import gc
 import hashlib
 import os
 import pathlib
@@ -228,7 +229,7 @@ class _Worker:
 
     def ask(self, what: str, batch: Batch) -> Any:
         """What a function of this module answers about a batch."""
-        process = self._running()
+        process = self.start()
         assert process.stdin and process.stdout
         try:
             pickle.dump((what, batch), process.stdin)
@@ -261,7 +262,8 @@ class _Worker:
                 with contextlib.suppress(OSError):
                     end and end.close()
 
-    def _running(self) -> subprocess.Popen[bytes]:
+    def start(self) -> subprocess.Popen[bytes]:
+        """The process, which is started if there is none."""
         with self._lock:
             if self._is_over:
                 raise WorkerLost("the workers were ended")
@@ -287,6 +289,7 @@ class Processes:
         self._workers = [_Worker() for _ in range(jobs)]
         self._idle: queue.SimpleQueue[_Worker] = queue.SimpleQueue()
         for worker in self._workers:
+            worker.start()
             self._idle.put(worker)
 
     def device(self, path: str) -> Device:
@@ -317,6 +320,9 @@ class Processes:
 def main() -> None:
     """What a worker does: it answers until nobody asks any more."""
     signal.signal(signal.SIGINT, signal.SIG_IGN)
+    # What is loaded by now stays, and what comes and goes has few cycles.
+    gc.freeze()
+    gc.set_threshold(100_000)
     # The main thread alone may be interrupted, and has to look out for that at each step.
     thread = threading.Thread(target=_answer_all)
     thread.start()

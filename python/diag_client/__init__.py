@@ -26,6 +26,8 @@ from .replies import Blame, Diagnosis, Graph, Level, Minimum, Probe, Verdict
 from .service import Service, find_program
 from .session import Session
 
+__version__ = "0"
+
 __all__ = [
     "BadScript",
     "BadTable",

@@ -134,7 +134,7 @@ def _cases(rows: Iterable[tuple[int, Sequence[str]]], name_of: NameOf) -> dict[s
                 pass
             case [("see" | "unsee" | "hold" | "unhold") as command, session, word]:
                 try:
-                    change(*found.setdefault(session, ({}, {})), command, [_checked(command, word, name_of)])
+                    change(*found.setdefault(session, ({}, {})), command, [checked(command, word, name_of)])
                 except ValueError as error:
                     raise BadScript(f"line {number}: {error}") from None
             case _:
@@ -142,8 +142,8 @@ def _cases(rows: Iterable[tuple[int, Sequence[str]]], name_of: NameOf) -> dict[s
     return {name: Case(seen, held) for name, (seen, held) in found.items()}
 
 
-def _checked(command: str, word: str, name_of: NameOf) -> str:
-    """A word of such a line, with the name that counts. Raises ValueError if its value is none."""
+def checked(command: str, word: str, name_of: NameOf) -> str:
+    """A word of a line that changes a case, with the name that counts. Raises ValueError if its value is none."""
     if command not in VALUES:
         return name_of(command, word)
     name, equals, value = word.rpartition("=")

@@ -17,7 +17,7 @@ import time
 import types
 import warnings
 import weakref
-from collections.abc import Iterator, Sequence
+from collections.abc import Callable, Iterable, Iterator, Sequence
 from typing import IO
 
 from .errors import Ended, OtherProcess, TimedOut
@@ -82,9 +82,11 @@ class Child:
     The program ends with the last reference to its child, and with the interpreter. After a fork it is that of the first process.
     """
 
-    def __init__(self, words: Sequence[str], timeout: float | None = None) -> None:
+    def __init__(self, words: Sequence[str], timeout: float | None, closings: Callable[[], Iterable[Request]]) -> None:
         self._words = tuple(words)
         self._timeout = timeout
+        # What is asked before all else, whenever something is asked.
+        self._closings = closings
         self._owner = os.getpid()
         with interrupts_held_back():
             # A group of its own: an interrupt at the terminal is for the one who asks.
@@ -145,6 +147,7 @@ class Child:
 
     def send(self, requests: Sequence[Request]) -> None:
         """Asks all of these at once. Their replies are taken when they come."""
+        # A text that cannot be sent is an error before anything is.
         text = "".join(request.sent for request in requests).encode("utf-8", "surrogateescape")
         if not self.is_own:
             raise OtherProcess(self._owner)
@@ -158,11 +161,13 @@ class Child:
             if self._over is not None:
                 raise self.ended()
             with self._a_step():
+                closings = list(self._closings())
+                text = "".join(request.sent for request in closings).encode() + text
                 if LOG.isEnabledFor(logging.DEBUG):
                     for line in text.decode("utf-8", "surrogateescape").splitlines():
                         LOG.debug("to %d: %s", self._process.pid, line)
                 self._unsent += text
-                self._awaited.extend(requests)
+                self._awaited += [*closings, *requests]
                 self._watch(self._input, selectors.EVENT_WRITE)
 
     def limit(self, timeout: float | None) -> None:

@@ -7,6 +7,13 @@ import signal
 
 # So many characters of a text are shown.
 LONGEST_SHOWN = 60
+# What to do about a refusal, by its text.
+CURES = {
+    "open already": "close that session or drop it, or give no name",
+    "full": "close a session or drop it",
+    "no levels": "give Service(levels=C)",
+    "no least": "give Service(least=True)",
+}
 
 
 class DiagError(Exception):
@@ -64,7 +71,8 @@ class TimedOut(DiagError, TimeoutError):
 class Refused(DiagError):
     """A line asked for something that cannot be done, and changed nothing.
 
-    `number` and `text` are the program's own, as in docs/SCRIPT.md; `line` is the line that was refused.
+    `number` and `text` are the program's own, as in docs/SCRIPT.md; `line` is the line that was refused. `hint` says what to do, if that
+    is clear.
     """
 
     def __init__(self, number: int, text: str, line: str) -> None:
@@ -73,8 +81,13 @@ class Refused(DiagError):
         self.text = text
         self.line = line
 
+    @property
+    def hint(self) -> str:
+        """What to do."""
+        return CURES.get(self.text, "")
+
     def __str__(self) -> str:
-        return f"{self.text} (error {self.number}): {shown(self.line)}"
+        return f"{self.text} (error {self.number}): {shown(self.line)}" + (f"; {self.hint}" if self.hint else "")
 
 
 class BadScript(DiagError, ValueError):

@@ -237,7 +237,12 @@ class Lines(Request):
     """
 
     def __init__(
-        self, session: str, begins: str, rests: Sequence[str] = ("",), reply: str = "ok", note: Callable[[Sequence[str]], None] | None = None
+        self,
+        session: str,
+        begins: str,
+        rests: Sequence[str] = ("",),
+        reply: str = "ok",
+        note: Callable[[Sequence[str]], None] | None = None,
     ) -> None:
         super().__init__(session, begins + rests[0])
         self._begins = begins

@@ -401,7 +401,7 @@ class Service:
 
     def carry_out(self, requests: Sequence[Request]) -> None:
         """Asks all of these at once, and waits for their replies. Raises `Ended` if the program ends before."""
-        self._child.ask([*self._closings(), *requests])
+        self._child.ask(requests)
 
     def do(self, requests: Sequence[Request]) -> None:
         """The same, and then raises the first refusal."""
@@ -410,11 +410,11 @@ class Service:
 
     def follow(self, requests: Sequence[Request]) -> Iterator[None]:
         """The same, but comes back each time that a piece of the replies was read, so that they can be printed as they come."""
-        return self._child.follow([*self._closings(), *requests])
+        return self._child.follow(requests)
 
     def send(self, requests: Sequence[Request]) -> None:
         """The same, and waits for nothing."""
-        self._child.send([*self._closings(), *requests])
+        self._child.send(requests)
 
     def wait_for(self, request: Request) -> None:
         """Waits for the reply to something that was sent."""
@@ -444,7 +444,7 @@ class Service:
         old = self._child
         old.stop()
         # A new program has none of the sessions that were dropped.
-        self._closings()
+        self._dropped.clear()
         child = self._start(Ready())
         try:
             known = [request for session in list(self._open.values()) for request in session.reopening()]
@@ -464,7 +464,8 @@ class Service:
     def close(self) -> None:
         """Ends the program, once all that was asked is answered. Raises `Ended` if it ends with another status than 0.
 
-        It waits for `timeout` seconds, or 10 if there is none, and then ends the program at once, which loses nothing. A service that has ended, or was closed, or belongs to another process, stays as it is.
+        It waits for `timeout` seconds, or 10 if there is none, and then ends the program at once, which loses nothing. A service that has
+        ended, or was closed, or belongs to another process, stays as it is.
         """
         if not self.is_running:
             return
@@ -487,7 +488,7 @@ class Service:
     def note_open(self, session: Session) -> None:
         """A session is open from now on."""
         self._open[session.name] = session
-        closer = weakref.finalize(session, self._dropped.append, session.name)
+        closer = weakref.finalize(session, _note_dropped, self._dropped, self._keepers, session.name)
         closer.atexit = False
         self._keepers[session.name] = closer.detach
 
@@ -496,19 +497,16 @@ class Service:
         if self._open.pop(session.name, None) is not None:
             self._keepers.pop(session.name)()
 
-    def _closings(self) -> list[Request]:
+    def _closings(self) -> Iterator[Request]:
         """The lines that close the sessions that were dropped."""
-        closings: list[Request] = []
         while self._dropped:
             name = self._dropped.popleft()
-            self._keepers.pop(name, None)
-            closings.append(Lines(name, f"close {name}", reply="closed"))
-        return closings
+            yield Lines(name, f"close {name}", reply="closed")
 
     def _start(self, ready: Ready) -> Child:
         """The program, started and ready."""
         try:
-            child = Child(self._words, self._timeout)
+            child = Child(self._words, self._timeout, self._closings)
         except OSError as error:
             raise NotBuilt(f"{self._words[0]} cannot be started: {error.strerror}") from error
         try:
@@ -535,6 +533,12 @@ class Service:
             with self.session() as session:
                 self._names = (tuple(row.part for row in session.blame()), tuple(row.wire for row in session.probes()))
         return self._names
+
+
+def _note_dropped(dropped: collections.deque[str], keepers: dict[str, Callable[[], object]], name: str) -> None:
+    """Nobody has the session of this name any more."""
+    dropped.append(name)
+    keepers.pop(name, None)
 
 
 def _raise_refused(requests: Iterable[Request]) -> None:

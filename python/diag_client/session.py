@@ -325,9 +325,9 @@ class Session:
         """The wires of `among`, else all, that were not seen, the one first that splits the diagnoses at hand best.
 
         At hand are the first `limit` diagnoses. Of each wire it is counted how many of these are still diagnoses if the wire is
-        seen as 0 too, and if it is seen as 1 too, as the program answers it. That is asked in a session of its own, which is closed
-        again: this one stays as it is, and there has to be room for one more (`Refused` 8 if there is none). docs/PYTHON.md has the
-        whole definition.
+        seen as 0 too, and if it is seen as 1 too, as the program answers it. If these are z and o of n, which are equally likely, then
+        (n (z + o) + (z - o)²) / 2n are expected to be left. That is asked in a session of its own, which is closed again: this one stays
+        as it is, and there has to be room for one more (`Refused` 8 if there is none).
         """
         return display.Rows(advice.rank(self, among, limit))
 
@@ -457,7 +457,8 @@ class Session:
 
     def piece(self, rows: Iterable[Sequence[str]]) -> AnyLines:
         """The same as one request. The words have no blanks."""
-        return AnyLines([" ".join([command, self.name, *self._named(command, words)]) for command, *words in rows], self.name, self._note_line)
+        lines = [" ".join([command, self.name, *self._named(command, words)]) for command, *words in rows]
+        return AnyLines(lines, self.name, self._note_line)
 
     def probe_each(self, wires: Iterable[str]) -> list[Probe]:
         """`probe` of each of these wires, all asked at once."""

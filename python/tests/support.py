@@ -1,5 +1,7 @@
 """What the tests share: where the built program is, what it answers by itself, and how they wait and interrupt."""
 
+import atexit
+import collections
 import os
 import pathlib
 import signal
@@ -15,11 +17,35 @@ C17 = EXAMPLES / "c17.bench"
 TESTS = TOP / "python/tests"
 # The built program itself, and not the launcher, which asks whether a source is newer. Some tests go to another folder.
 PROGRAM = os.environ["DIAG_PROGRAM"] = os.path.abspath(os.environ.get("DIAG_PROGRAM") or TOP / "crates/diag/out/diag")
-needs_program = unittest.skipUnless(os.access(PROGRAM, os.X_OK), "the program is not built")
+needs_program = unittest.skipUnless(os.access(PROGRAM, os.X_OK), f"there is no program {PROGRAM}: `./diag --build`, or set DIAG_PROGRAM")
 # So many seconds something is waited for that has to come, on a starved machine too.
 SOON = 300.0
 
 sys.path.insert(0, str(TOP / "python"))
+
+# How many tests were skipped, by the reason.
+_skipped = collections.Counter()
+_add_skip = unittest.TestResult.addSkip
+
+
+def _count_skip(result, test, reason):
+    """A test that is skipped is counted, and where CI is true it fails."""
+    _skipped[reason] += 1
+    _add_skip(result, test, reason)
+    if os.environ.get("CI") == "true":
+        error = AssertionError(f"skipped, and that is a failure where CI is true: {reason}")
+        result.addFailure(test, (AssertionError, error, None))
+
+
+def _tell_skipped():
+    """The last line says how many tests were skipped, and why, since the line before it says OK."""
+    if _skipped:
+        reasons = "; ".join(f"{count} since {reason}" for reason, count in _skipped.most_common())
+        print(f"{_skipped.total()} skipped: {reasons}", file=sys.stderr)
+
+
+unittest.TestResult.addSkip = _count_skip
+atexit.register(_tell_skipped)
 
 # If the locale of this machine is not installed, each shell says so on standard error.
 os.environ["LC_ALL"] = "C"

@@ -104,7 +104,8 @@ class Others(unittest.TestCase):
 
     def test_both_ways(self):
         """What is counted by wires and by diagnoses is the same."""
-        for file, seen in (("c17.bench", CASE), ("c17.bench", {"22": 1, "1": 0, "3": 0}), ("pump.dev", {"switch": 1, "ready": 1, "inlet": 0})):
+        pump = {"switch": 1, "ready": 1, "inlet": 0}
+        for file, seen in (("c17.bench", CASE), ("c17.bench", {"22": 1, "1": 0, "3": 0}), ("pump.dev", pump)):
             with self.subTest(seen), Service(EXAMPLES / file) as served, served.session() as session:
                 session.see(seen)
                 at_hand, wires = list(session.diagnoses()), [row.wire for row in session.probes()]

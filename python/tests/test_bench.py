@@ -133,7 +133,8 @@ class OnC17(unittest.TestCase):
 
     def test_the_fault_is_found(self):
         state = self.enter()
-        self.assertEqual((state["cost"], self.parts(state), state["blame"]), (1, [("10",), ("22",)], [("10", "sometimes"), ("22", "sometimes")]))
+        self.assertEqual((state["cost"], self.parts(state)), (1, [("10",), ("22",)]))
+        self.assertEqual(state["blame"], [("10", "sometimes"), ("22", "sometimes")])
         self.assertEqual(state["patterns"][0]["against"], ["22"])
         self.assertEqual(dict(state["patterns"][0]["expected"])["10"], 1)
         self.assertIsNone(state["advice"])
@@ -292,11 +293,13 @@ class OnC17(unittest.TestCase):
     def test_refused(self):
         before = self.enter()
         for act in (
-            {}, {"act": None}, {"act": "__class__"}, {"act": "see"}, {"act": "see", "wire": "99", "bit": 0}, {"act": "see", "wire": 1, "bit": 7},
+            {}, {"act": None}, {"act": "__class__"}, {"act": "see"}, {"act": "see", "wire": "99", "bit": 0},
+            {"act": "see", "wire": 1, "bit": 7},
             {"act": "see", "wire": "1", "bit": "0\nclose s1"}, {"act": "turn", "wire": "1=0\nopen X"}, {"act": "turn", "wire": ["1"]},
-            {"act": "hold", "part": "10", "mode": "fine"}, {"act": "hold", "part": "nothing", "mode": "ok"}, {"act": "show", "shown": 10**9},
-            {"act": "show", "shown": "many"}, {"act": "pattern", "how": "choose", "name": "P9"}, {"act": "pattern", "how": "new", "name": "a b"},
-            {"act": "reach", "wire": "nowhere"}, {"act": "replaced", "text": "x" * 2001}, {"act": "replaced"}, {"act": "load", "text": "\ud800"},
+            {"act": "hold", "part": "10", "mode": "fine"}, {"act": "hold", "part": "nothing", "mode": "ok"},
+            {"act": "show", "shown": 10**9}, {"act": "show", "shown": "many"}, {"act": "pattern", "how": "choose", "name": "P9"},
+            {"act": "pattern", "how": "new", "name": "a b"}, {"act": "reach", "wire": "nowhere"},
+            {"act": "replaced", "text": "x" * 2001}, {"act": "replaced"}, {"act": "load", "text": "\ud800"},
         ):  # fmt: skip
             with self.subTest(act), self.assertRaises(Bad):
                 self.board.do(act)

@@ -84,7 +84,8 @@ class Placed(unittest.TestCase):
         return names, lines
 
     def test_examples(self):
-        for name in ("c17.bench", "adder.dev", "pump.dev", "ttl_74283.bench", "ripple_64_blocks.dev", "latch.bench", "frames/counter_4.bench"):
+        names = ("c17.bench", "adder.dev", "pump.dev", "ttl_74283.bench", "ripple_64_blocks.dev", "latch.bench", "frames/counter_4.bench")
+        for name in names:
             with self.subTest(name):
                 found = drawing.Scene(EXAMPLES / name)
                 for is_open in ((), found.device.blocks):
@@ -193,7 +194,8 @@ class Directions(unittest.TestCase):
         drawn = found.draw((), {"11", "16", "22"})
         self.assertEqual({box["name"] for box in drawn["boxes"]}, {"11", "16", "22"})
         # What comes from a part that is left out can be measured: 10 has a pin. So has 19 if nothing is drawn that reads it.
-        self.assertEqual({pin["wire"]: pin["side"] for pin in drawn["pins"]}, {"10": "left", "2": "left", "3": "left", "6": "left", "22": "right"})
+        sides = {pin["wire"]: pin["side"] for pin in drawn["pins"]}
+        self.assertEqual(sides, {"10": "left", "2": "left", "3": "left", "6": "left", "22": "right"})
         self.assertIn(("19", "right"), {(pin["wire"], pin["side"]) for pin in found.draw((), {"19"})["pins"]})
 
     def test_blocks_open_and_close(self):

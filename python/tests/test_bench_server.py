@@ -114,15 +114,17 @@ class Served(unittest.TestCase):
             self.assertEqual(self.post({"act": "state"}, f"{self.top}{name}/do")[0], 404, name)
 
     def test_paths_are_not_files(self):
-        for name in ("../page.js", "..%2fpage.js", "%2e%2e/page.js", "server.py", "__init__.py", "/etc/passwd", "%2fetc%2fpasswd", "page.js/",
-                     "page.js%00", "./page.js", "index.html", "x/page.js", f"{self.board.id}/page.js", f"{self.board.id}/../page.js", "page.js\\..\\x"):  # fmt: skip
+        for name in ("../page.js", "..%2fpage.js", "%2e%2e/page.js", "server.py", "__init__.py", "/etc/passwd", "%2fetc%2fpasswd",
+                     "page.js/", "page.js%00", "./page.js", "index.html", "x/page.js", f"{self.board.id}/page.js",
+                     f"{self.board.id}/../page.js", "page.js\\..\\x"):  # fmt: skip
             self.assertEqual(self.ask("GET", self.top + name)[0], 404, name)
         # What follows a question mark is nothing.
         self.assertEqual(self.ask("GET", self.top + "page.js?../../etc/passwd")[0], 200)
 
     def test_under_another_name(self):
         port = self.server.port
-        for host in ("evil.example", f"evil.example:{port}", "127.0.0.1", f"127.0.0.1:{port}.evil.example", f"127.0.0.1.evil.example:{port}",
+        for host in ("evil.example", f"evil.example:{port}", "127.0.0.1", f"127.0.0.1:{port}.evil.example",
+                     f"127.0.0.1.evil.example:{port}",
                      f"localhost:{port + 1}", f"10.0.0.1:{port}", f"user@{self.host}", f"[::1]:{port}", ""):  # fmt: skip
             self.assertEqual(self.ask("GET", self.top, Host=host)[0], 403, host)
             self.assertEqual(self.post({"act": "state"}, Host=host, Origin=f"http://{host}")[0], 403, host)
@@ -228,7 +230,8 @@ class Names(unittest.TestCase):
         found = server.Server(mock.Mock(), "0.0.0.0")
         self.addCleanup(found.server_close)
         port = found.port
-        for host in (f"192.168.1.5:{port}", f"127.0.0.1:{port}", f"[fe80::1]:{port}", f"localhost:{port}", f"{socket.gethostname()}:{port}".upper()):
+        name = f"{socket.gethostname()}:{port}".upper()
+        for host in (f"192.168.1.5:{port}", f"127.0.0.1:{port}", f"[fe80::1]:{port}", f"localhost:{port}", name):
             self.assertTrue(found.is_host(host), host)
         for host in (f"evil.example:{port}", f"1.2.3.4.evil.example:{port}", f"192.168.1.5:{port + 1}", "192.168.1.5", f":{port}"):
             self.assertFalse(found.is_host(host), host)

@@ -24,7 +24,8 @@ class Order(unittest.TestCase):
                 order.append(name)
 
         with turns.taken(shared.ADVICE):
-            for name, rank in (("advice", shared.ADVICE), ("search", shared.SEARCH), ("click", shared.CLICK), ("later click", shared.CLICK)):
+            ranks = {"advice": shared.ADVICE, "search": shared.SEARCH, "click": shared.CLICK, "later click": shared.CLICK}
+            for name, rank in ranks.items():
                 threads.append(threading.Thread(target=take, args=(rank, name)))
                 threads[-1].start()
                 wait_until(lambda: len(turns._waiting) == len(threads))

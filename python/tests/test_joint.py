@@ -12,8 +12,7 @@ from unittest import mock
 
 from support import C17, EXAMPLES, TOP, kill, needs_program
 
-from diag_client import BadTable, Case, DiagError, Inconsistent, Refused, Service, Session
-from diag_client import case
+from diag_client import BadTable, Case, DiagError, Inconsistent, Refused, Service, Session, case
 from diag_client.boards import holding
 from diag_client.boards.tables import read_table
 from diag_client.replies import Verdict
@@ -167,16 +166,21 @@ class Tables(unittest.TestCase):
             # Nothing was taken: the names are free, and a table with a mark before it is read.
             path.write_text("\ufeff22, 1,3\r\n1,0,\r\n0,1,1\r\n")
             patterns = service.patterns(path)
-            self.assertEqual({name: dict(row.seen) for name, row in patterns.items()}, {"p1": {"22": 1, "1": 0}, "p2": {"22": 0, "1": 1, "3": 1}})
+            seen = {name: dict(row.seen) for name, row in patterns.items()}
+            self.assertEqual(seen, {"p1": {"22": 1, "1": 0}, "p2": {"22": 0, "1": 1, "3": 1}})
 
     def test_other_separators(self):
         """Some programs write semicolons or tabs. A wire may have a semicolon in its name."""
         with tempfile.TemporaryDirectory() as folder:
             path = pathlib.Path(folder, "readings.csv")
-            for text, wires in (("a;b\r\n0;1\r\n", "ab"), ("a\tb\n0\t1\n", "ab"), ("pattern;b\np1;1\n", "b"), ("a;b\n1\n", ["a;b"]), ("a;b,c\n1,0\n", ["a;b", "c"])):
+            for text, wires in (
+                ("a;b\r\n0;1\r\n", "ab"), ("a\tb\n0\t1\n", "ab"), ("pattern;b\np1;1\n", "b"), ("a;b\n1\n", ["a;b"]),
+                ("a;b,c\n1,0\n", ["a;b", "c"]),
+            ):
                 path.write_text(text)
                 with self.subTest(text):
-                    self.assertEqual([(name, list(case.seen)) for name, case in read_table(path, wires).patterns.items()], [("p1", list(wires))])
+                    found = [(name, list(case.seen)) for name, case in read_table(path, wires).patterns.items()]
+                    self.assertEqual(found, [("p1", list(wires))])
             path.write_text("a;z\n0;1\n")
             with self.assertRaisesRegex(BadTable, "row 1, column 2: no wire 'z'"):
                 read_table(path, "ab")
@@ -240,7 +244,8 @@ class Board(unittest.TestCase):
         self.assertEqual(told[-8:], [
             "min: nothing follows it", "pattern NAME: which pattern? a name without blanks; `patterns` lists them",
             f"refused: bad name (error 3): é; {shell.NAMES}",
-            f"this COMMAND: {together}", f"all COMMAND: {together}, hold and unhold", "pattern one: 4 readings", "pattern one alone:", "min 1 10"])
+            f"this COMMAND: {together}", f"all COMMAND: {together}, hold and unhold", "pattern one: 4 readings", "pattern one alone:",
+            "min 1 10"])
         self.assertEqual(status, 1)
 
     def test_for_all_or_for_one(self):
@@ -282,7 +287,10 @@ class Board(unittest.TestCase):
         with Service(C17) as service, mock.patch("sys.stdin", io.StringIO()):
             terminal = patterns.BoardShell(service, service.session("S"))
             terminal.take(service.patterns(ROWS))
-            for line, found in (("expect 2", ["2", "22", "23"]), ("probe 2", ["2", "22", "23"]), ("best 1", ["10", "11", "16", "19"]), ("pattern t", ["two "])):
+            for line, found in (
+                ("expect 2", ["2", "22", "23"]), ("probe 2", ["2", "22", "23"]), ("best 1", ["10", "11", "16", "19"]),
+                ("pattern t", ["two "]),
+            ):
                 text = line.split()[1]
                 ends = {"get_line_buffer": line, "get_begidx": len(line) - len(text), "get_endidx": len(line)}
                 with contextlib.ExitStack() as stack:
@@ -354,7 +362,8 @@ class Board(unittest.TestCase):
             told, status, said = self.told(["min"], "--patterns", table)
             self.assertEqual((told, status), ([], 1))
             self.assertIn("row 1, column 2: no wire '99'", said)
-            for count, why in ((600, "600 patterns, and at most 512 can be searched"), (1025, "1025 patterns, and at most 1024 sessions are open")):
+            most = {600: "600 patterns, and at most 512 can be searched", 1025: "1025 patterns, and at most 1024 sessions are open"}
+            for count, why in most.items():
                 table.write_text("1\n" + "0\n" * count)
                 texts, status, said = self.told(["min"], "--patterns", table)
                 self.assertEqual((status, texts), (1, []))

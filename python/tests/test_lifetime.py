@@ -68,7 +68,8 @@ class Dropped(unittest.TestCase):
     def test_interpreter_ends(self):
         script = "import diag_client, sys; s = diag_client.Service('any.bench', program=sys.argv[1:]); print(s._child._process.pid)"
         environment = {**os.environ, "PYTHONPATH": str(TOP / "python")}
-        done = subprocess.run([sys.executable, "-c", script, *stand_in("is good")], env=environment, capture_output=True, text=True, check=True)
+        words = [sys.executable, "-c", script, *stand_in("is good")]
+        done = subprocess.run(words, env=environment, capture_output=True, text=True, check=True)
         self.assertFalse(is_alive(int(done.stdout)))
 
     def test_closed_ones_warn_of_nothing(self):
@@ -314,7 +315,10 @@ class Options(unittest.TestCase):
     def test_line_with_a_fault(self):
         """It is shown, unless it is very long."""
         with self.temporary(b"INPUT[a]\r\n y = AND(a\n" + b"x" * 61 + b"\n") as file:
-            for number, shown in ((1, "; line 1 is `INPUT[a]`"), (2, "; line 2 is `y = AND(a`"), (3, f"; line 3 is `{'x' * 60}...`"), (0, "fault 1 line"), (9, "fault 1 line")):
+            for number, shown in (
+                (1, "; line 1 is `INPUT[a]`"), (2, "; line 2 is `y = AND(a`"), (3, f"; line 3 is `{'x' * 60}...`"), (0, "fault 1 line"),
+                (9, "fault 1 line"),
+            ):
                 self.assertTrue(self.refusal(f"error: line {number}: fault 1 line", 1, file=file).endswith(shown))
             file.unlink()
             os.mkfifo(file)

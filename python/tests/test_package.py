@@ -7,10 +7,13 @@ import shutil
 import subprocess
 import sys
 import tempfile
+import tomllib
 import unittest
 
 from checkout import make_checkout
 from support import C17, EXAMPLES, PROGRAM, TOP, needs_program
+
+import diag_client
 
 # Whether a Python makes wheels and environments, and its `pip` installs into another one.
 IS_USABLE = """
@@ -38,14 +41,47 @@ REPAIR = [
 ]
 
 
-class Types(unittest.TestCase):
-    """They are checked, if there is what checks them."""
+class Checked(unittest.TestCase):
+    """The sources, by the settings in pyproject.toml, as far as there is what checks them."""
+
+    SETTINGS = TOP / "python/pyproject.toml"
+
+    def check(self, *words):
+        done = subprocess.run(words, capture_output=True, text=True, cwd=TOP / "python")
+        self.assertEqual(done.returncode, 0, done.stdout + done.stderr)
 
     @unittest.skipUnless(shutil.which("mypy"), "there is no mypy")
-    def test_strict(self):
-        words = ["mypy", "--strict", "--python-version=3.11", "--cache-dir=/dev/null", TOP / "python/diag_client"]
-        done = subprocess.run(words, capture_output=True, text=True)
-        self.assertEqual(done.returncode, 0, done.stdout + done.stderr)
+    def test_types(self):
+        self.check("mypy", "--config-file", self.SETTINGS, "--cache-dir=/dev/null", "diag_client")
+
+    def test_ruff(self):
+        """Debian 12 has none."""
+        if shutil.which("ruff"):
+            self.check("ruff", "check", "--no-cache", ".")
+
+    def test_lines(self):
+        most = tomllib.loads(self.SETTINGS.read_text())["tool"]["ruff"]["line-length"]
+        for path in (TOP / "python/diag_client").rglob("*.py"):
+            for number, line in enumerate(path.read_text().splitlines(), 1):
+                self.assertLessEqual(len(line), most, f"{path}:{number}")
+
+    def test_public_names(self):
+        """The reference, which `pydoc` makes, has them all."""
+        told = subprocess.run([sys.executable, "-m", "pydoc", "diag_client"], capture_output=True, text=True, cwd=TOP / "python").stdout
+        for name in diag_client.__all__:
+            self.assertRegex(told, rf"(?m)^    (class )?{name}\b")
+
+
+class Skipped(unittest.TestCase):
+    """Tests without a program are skipped, which the last line says, and fail where CI is true."""
+
+    def test_said(self):
+        words = [sys.executable, "-m", "unittest", "discover", "-s", TOP / "python/tests", "-p", "test_advice.py"]
+        for variables, status in (({}, 0), ({"CI": "true"}, 1)):
+            others = {name: value for name, value in os.environ.items() if name != "CI"}
+            done = subprocess.run(words, capture_output=True, text=True, env={**others, "DIAG_PROGRAM": "/nowhere/diag", **variables})
+            self.assertEqual(done.returncode, status, done.stderr)
+            self.assertRegex(done.stderr.splitlines()[-1], r"^([0-9]+) skipped: \1 since there is no program /nowhere/diag: ")
 
 
 @needs_program
@@ -64,7 +100,7 @@ class Wheel(unittest.TestCase):
         built = subprocess.run([top / "python/build-wheel", self.folder / "wheels"], capture_output=True, text=True, env=env)
         self.assertEqual(built.returncode, 0, built.stderr)
         wheel = built.stdout.strip()
-        self.assertRegex(wheel, r"/wheels/diag_client-[0-9.]+-py3-none-linux_\w+\.whl$")
+        self.assertRegex(wheel, rf"/wheels/diag_client-{diag_client.__version__}-py3-none-linux_\w+\.whl$")
         self.assertEqual(sorted(os.listdir(top / "python")), ["build-wheel", "diag_client", "pyproject.toml"])
         shutil.rmtree(top)
         self.install(wheel)
@@ -74,7 +110,8 @@ class Wheel(unittest.TestCase):
     def install(self, wheel):
         """Into a new environment, without an index."""
         fresh = self.folder / "env"
-        install = [PYTHON, "-m", "pip", "--python", fresh / "bin/python", "install", "-q", "--no-index", "--disable-pip-version-check", wheel]
+        pip = [PYTHON, "-m", "pip", "--python", fresh / "bin/python"]
+        install = [*pip, "install", "-q", "--no-index", "--disable-pip-version-check", wheel]
         for words in ([PYTHON, "-m", "venv", "--without-pip", fresh], install):
             done = subprocess.run(words, capture_output=True, text=True, env={**self.plain(), "PIP_CONFIG_FILE": os.devnull})
             self.assertEqual(done.returncode, 0, done.stderr)
@@ -107,7 +144,8 @@ class Wheel(unittest.TestCase):
         rows = [tuple(row.rstrip("\n").split("\n", 1)) for row in shown.split("diag> ")[1:]] + REPAIR
         # From a pipe the terminal says with its status that a line was refused: here the mistyped reading of the page.
         words = [self.folder / "env/bin/diag-shell", "examples/c17.bench"]
-        done = subprocess.run(words, input="\n".join(typed for typed, _ in rows), capture_output=True, text=True, cwd=self.folder, env=self.plain())
+        text = "\n".join(typed for typed, _ in rows)
+        done = subprocess.run(words, input=text, capture_output=True, text=True, cwd=self.folder, env=self.plain())
         self.assertEqual((done.stdout, done.stderr, done.returncode), ("".join(f"{told}\n" for _, told in rows), "", 1))
 
     def test_not_built(self):

@@ -13,7 +13,7 @@ from unittest import mock
 
 from support import C17, EXAMPLES, TESTS, TOP, needs_program
 
-from diag_client import Case, DiagError, Refused, Service, Verdict
+from diag_client import Case, DiagError, Service, Verdict
 from diag_client.devices import Part, read_device, read_netlist
 from diag_client.pictures import graphviz, picture
 from diag_client.pictures.cone import Wiring, derive
@@ -195,7 +195,10 @@ class TooLarge(unittest.TestCase):
         self.assertIn("from which the expected bits of the wrong readings follow", text)
 
     def test_says_what_is_wrong(self):
-        for line, why in (("see S 99=0", "line 2: no wire 99"), ("hold S 1=ok", "no part"), ("see S 1=2", "1=2: a reading is 0 or 1"), ("see S 1", "a reading")):
+        for line, why in (
+            ("see S 99=0", "line 2: no wire 99"), ("hold S 1=ok", "no part"), ("see S 1=2", "1=2: a reading is 0 or 1"),
+            ("see S 1", "a reading"),
+        ):
             with self.subTest(line), self.assertRaisesRegex(DiagError, why):
                 picture.picture_alone(C17, None, ["open S", line], None, 9, "")
 

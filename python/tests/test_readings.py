@@ -42,7 +42,6 @@ REFUSED = {
     "1,also\n0,1\n": "row 2, column 2 (also): not 1, since it is one wire with a column before it",
     "1,,3\n0,,1\n": "row 1, column 2: no wire ''",
     "1,3\n0,1,1\n": "row 2, column 3: 3 cells, and the first row has 2",
-    "# 1,3\n": "a first row with the names of wires is needed",
 }
 
 
@@ -118,6 +117,12 @@ class Pasted(unittest.TestCase):
         with self.assertRaisesRegex(records.Bad, "take it by Load"):
             records.read_readings("see P1 a=0\nhold P1 g=ok\n", self.KNOWN)
 
+    def test_no_table(self):
+        """Of one line it is not said that a table has more of them."""
+        for text in ("1:0", "a b", ""):
+            with self.subTest(text), self.assertRaisesRegex(records.Bad, f"^'{text}' is no reading: write a=0 b=1$"):
+                records.read_readings(text, self.KNOWN)
+
     def test_levels_are_not_guessed(self):
         with self.assertRaisesRegex(ValueError, "^write 1$"):
             bit_of("High")
@@ -138,7 +143,8 @@ class Scripts(unittest.TestCase):
 
     def test_lines(self):
         """A line changes what those before it said, a session that is opened again begins anew, and one that is closed keeps its case."""
-        script = "\ufeffopen S\r\nsee S a=0\r\nopen S\r\n\r\n# min\r\nsee S b=0\r\nsee\tS b=1\r\nhold S g=ok\r\nunhold S g\r\nlist S 9\r\nclose S\r\n"
+        lines = ["open S", "see S a=0", "open S", "", "# min", "see S b=0", "see\tS b=1", "hold S g=ok", "unhold S g", "list S 9"]
+        script = "\ufeff" + "\r\n".join([*lines, "close S"])
         self.assertEqual(Case.from_script(script), Case({"b": 1}))
         self.assertEqual(Case.from_script(script.splitlines()), Case({"b": 1}))
 
@@ -207,7 +213,7 @@ class Patterns(unittest.TestCase):
     def test_too_many(self):
         """It is said at once how many there may be, and no session is left open."""
         with Service(C17, sessions=4) as service:
-            with self.assertRaisesRegex(BadTable, "the table: 5 patterns, and at most 4 sessions are open at a time, of which 2 can be searched"):
+            with self.assertRaisesRegex(BadTable, "the table: 5 patterns, and at most 4 sessions are open at a time, of which 2 can be"):
                 service.patterns([["22"], *[[0]] * 5])
             with self.assertRaisesRegex(ValueError, "3 patterns, and at most 2 can be searched together"):
                 service.together(service.patterns([["22"], *[[0]] * 3]).values())

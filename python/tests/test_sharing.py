@@ -13,6 +13,7 @@ import unittest
 from support import C17, SOON, kill, needs_program, stand_in
 
 from diag_client import Case, Changed, DiagError, Diagnosis, Ended, Inconsistent, Refused, Service, TimedOut
+from diag_client.bench.shared import SharedService
 
 ZERO = {"1": 0, "2": 0, "3": 0, "6": 0, "7": 0}
 CASE = {**ZERO, "22": 1, "23": 0}
@@ -42,7 +43,7 @@ class DroppedSessions(unittest.TestCase):
         with Service(C17) as service:
             session = service.session("S")
             session.see({"22": 1})
-            with self.assertRaises(Refused):
+            with self.assertRaisesRegex(Refused, r"open already \(error 7\): open S; close that session or drop it, or give no name"):
                 service.session("S")
             self.assertEqual(session.minimum().cost, 0)
             del session
@@ -159,8 +160,22 @@ class Closed(unittest.TestCase):
         service = served("is good", timeout=SOON)
         service._child._timeout = 0.3
         service._child._process.send_signal(signal.SIGSTOP)
-        service.close()
+        with self.assertLogs("diag_client", "WARNING"):
+            service.close()
         self.assertFalse(service.is_running)
+
+    def test_while_another_thread_waits(self):
+        """The page ends too while it is at work."""
+        service = SharedService("any.bench", program=stand_in("dozes"))
+        session = service.session("S")
+        with concurrent.futures.ThreadPoolExecutor(1) as pool:
+            asked = pool.submit(session.minimum)
+            while not service.is_behind:
+                time.sleep(0.01)
+            service._child._timeout = 0.3
+            with self.assertLogs("diag_client", "WARNING"):
+                service.close()
+            self.assertIsInstance(asked.exception(SOON), Ended)
 
     def test_what_was_asked_is_answered(self):
         """If there is time for it."""

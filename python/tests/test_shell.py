@@ -49,7 +49,7 @@ class Lines(unittest.TestCase):
         """What docs/PYTHON.md shows of it."""
         shown = re.search(r"Type \? for help\.\n(diag> .*?)```", (TOP / "docs/PYTHON.md").read_text(), re.DOTALL)[1]
         rows = [row.splitlines() for row in shown.split("diag> ")[1:]]
-        self.assertGreater(len(rows), 3)
+        self.assertGreater(len(rows), 2)
         for line, *told in rows:
             self.assertEqual(self.say(line), told)
 
@@ -100,7 +100,8 @@ class Lines(unittest.TestCase):
             ("see 1:0", "write 1=0"), ("see 22=H", "write 22=1"), ("see 22=Low", "write 22=0"), ("SEE 1=0", "do you mean see?"),
             ("hold 10=OK", "write 10=ok"), ("probe 1,2", "no commas"), ("level", "--levels C"), ("leastnnf", "--least"),
             ("exitt", "do you mean exit?"), ("best 10,16", "no commas"), ("see Net-(U1)=1", "none of ( )"), ("probe café", "ASCII"),
-            ("see 1=\x1b[2J", "1=\ufffd[2J; write 1=\ufffd[2j"), (f"min {'1' * 2000}", f"{'1' * 60}...; it is min"), (f"{'x' * 1048577}", "at most 1048576 bytes"),
+            ("see 1=\x1b[2J", "1=\ufffd[2J; write 1=\ufffd[2j"), (f"min {'1' * 2000}", f"{'1' * 60}...; it is min"),
+            (f"{'x' * 1048577}", "at most 1048576 bytes"),
         ):
             with self.subTest(line[:80]):
                 self.assertIn(hint, " ".join(self.say(line)))
@@ -157,7 +158,8 @@ class Lines(unittest.TestCase):
     def test_expect(self):
         self.say("see 1=0 2=0 3=0 6=0 22=1")
         self.assertEqual(self.say("expect 22 16"), ["22 should be 0, and was seen as 1", "16 should be 1"])
-        self.assertEqual(self.say("unsee 2 6", "expect 23"), ["2 readings taken back", "23 may be 0 or 1: the inputs that were seen do not fix it"])
+        told = ["2 readings taken back", "23 may be 0 or 1: the inputs that were seen do not fix it"]
+        self.assertEqual(self.say("unsee 2 6", "expect 23"), told)
         self.assertIn("10 should be 1", self.say("expect"))
         self.assertEqual(self.say("expect 99 10"), ["refused: no wire (error 9): 99", "10 should be 1"])
         self.assertEqual(self.say("unsee 1 3", "expect")[1], "the inputs that were seen fix no wire")
@@ -200,7 +202,8 @@ class Lines(unittest.TestCase):
             self.assertEqual(self.say(f"picture {folder}/out.dot"), [f"wrote {folder}/out.dot"])
             self.assertIn("part 10", pathlib.Path(folder, "out.dot").read_text())
             with mock.patch("diag_client.pictures.graphviz.find_dot", return_value=None):
-                self.assertEqual(self.say(f"picture {folder}/out.svg"), [f"Graphviz's `dot` is not here (Debian: graphviz); wrote {folder}/out.dot alone"])
+                told = [f"Graphviz's `dot` is not here (Debian: graphviz); wrote {folder}/out.dot alone"]
+                self.assertEqual(self.say(f"picture {folder}/out.svg"), told)
         self.assertEqual(len(self.say("picture")), 1)
         with mock.patch("diag_client.pictures.picture.Findings.of", side_effect=AssertionError):
             # It is found before anything is asked.
@@ -241,7 +244,8 @@ class Lines(unittest.TestCase):
 
     def test_nobody_reads(self):
         """It ends without a word, whether what it prints is written at once or at its end."""
-        words, python = [sys.executable, "-m", "diag_client", "shell", str(C17)], {"PYTHONPATH": str(TOP / "python"), "PYTHONUNBUFFERED": ""}
+        words = [sys.executable, "-m", "diag_client", "shell", str(C17)]
+        python = {"PYTHONPATH": str(TOP / "python"), "PYTHONUNBUFFERED": ""}
         pipes = dict.fromkeys(("stdin", "stdout", "stderr"), subprocess.PIPE)
         for line in (b"min\n", b"case\n"):
             with subprocess.Popen(words, env=os.environ | python, **pipes) as shell_run:
@@ -251,7 +255,8 @@ class Lines(unittest.TestCase):
 
     def test_full_disk(self):
         """It says so once."""
-        words, python = [sys.executable, "-m", "diag_client", "shell", str(C17)], {"PYTHONPATH": str(TOP / "python"), "PYTHONUNBUFFERED": ""}
+        words = [sys.executable, "-m", "diag_client", "shell", str(C17)]
+        python = {"PYTHONPATH": str(TOP / "python"), "PYTHONUNBUFFERED": ""}
         for line in (b"min\n", b"case\n"):
             with open("/dev/full", "wb") as full:
                 done = subprocess.run(words, input=line, stdout=full, stderr=subprocess.PIPE, env=os.environ | python)
@@ -366,7 +371,8 @@ class AtABench(unittest.TestCase):
 
     def test_two_values(self):
         why = "refused: 1=0 and 1=1 are of one wire; nothing was taken"
-        self.assertEqual(self.say("see 1=0 1=1", "1=0 2=0 1=1", "hold 10=ok 10=bad"), [why, why, why.replace("1=0 and 1=1", "10=ok and 10=bad").replace("wire", "part")])
+        held = "refused: 10=ok and 10=bad are of one part; nothing was taken"
+        self.assertEqual(self.say("see 1=0 1=1", "1=0 2=0 1=1", "hold 10=ok 10=bad"), [why, why, held])
         self.assertEqual(self.shell.session.case, Case())
 
     def test_a_reading_that_is_replaced(self):
@@ -407,7 +413,9 @@ class AtABench(unittest.TestCase):
 
     def test_pasted(self):
         """Lines that a terminal hands over as one."""
-        self.assertEqual(self.say("\x1b[200~see 1=0\r2=0 3=0\rmin\r\x1b[201~"), ["ok", "2 readings taken", "min 0 (nothing is wrong)"])
+        for feed in ("\r", "\n", "\r\n"):
+            lines = feed.join(["see 1=0", "2=0 3=0", "min", ""])
+            self.assertEqual(self.say(f"\x1b[200~{lines}\x1b[201~"), ["ok", "2 readings taken", "min 0 (nothing is wrong)"])
 
     def test_files(self):
         """A name may have quotes around it, and a script a mark before it."""
@@ -423,7 +431,7 @@ class AtABench(unittest.TestCase):
         """What was typed is kept, and that is said."""
         kill(self.service)
         [told] = self.say("1=0 2=0")
-        self.assertTrue(told.endswith(". The next command starts it anew. What was seen and held is kept; a question has to be asked again"), told)
+        self.assertRegex(told, "anew. What was seen and held is kept; a question has to be asked again$")
         self.assertEqual(self.say("case")[1:], ["seen: 1=0 2=0", "held: nothing"])
 
 

@@ -33,7 +33,8 @@ class Browser:
         )
         self._base = f"http://127.0.0.1:{port}"
         # As root a browser has no sandbox. What it opens here are our own pages.
-        words = [*words, "--headless=new", "--disable-gpu", f"--window-size={width},{height + BARS}", f"--user-data-dir={self._folder.name}"]
+        size, data = f"--window-size={width},{height + BARS}", f"--user-data-dir={self._folder.name}"
+        words = [*words, "--headless=new", "--disable-gpu", size, data]
         words += ["--no-sandbox"] if os.geteuid() == 0 else []
         options = {"goog:chromeOptions": {"args": words, "binary": shutil.which("chromium")}, "goog:loggingPrefs": {"browser": "ALL"}}
         for _ in range(200):

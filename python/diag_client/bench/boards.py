@@ -19,6 +19,7 @@ from typing import Any, TypeVar
 from .. import progress
 from ..advice import Proposal
 from ..boards.joint import Joint, JointProposal
+from ..case import change, checked
 from ..devices import other_names
 from ..errors import DiagError, Ended, Inconsistent, Refused
 from ..replies import Listing, Request, Verdict
@@ -284,7 +285,7 @@ class Board:
         return self.do({"act": "state"})
 
     def give_back(self) -> int:
-        """Closes its sessions, unless a request is under way, and gives how many. The case stays: new sessions get it when it is asked for."""
+        """Closes its sessions, unless a request is under way, and gives how many. The record stays, and new sessions get it in time."""
         if not self.lock.acquire(blocking=False):
             return 0
         try:
@@ -313,7 +314,8 @@ class Board:
         if record == self.record:
             return
         if record.line_count > MOST_LINES:
-            raise Bad(f"a board has at most {MOST_LINES} readings and tests of parts, and these would be more: begin a board for other patterns")
+            most = f"a board has at most {MOST_LINES} readings and tests of parts"
+            raise Bad(f"{most}, and these would be more: begin a board for other patterns")
         self._before = _last([*self._before, self.record])
         self._after = []
         self.record = record
@@ -336,7 +338,10 @@ class Board:
         part, mode = _text(act, "part"), act.get("mode")
         held = {name: how for name, how in self.record.board.held.items() if name != part}
         if mode is not None:
-            held.update([self.bench.known.mode(part, _text(act, "mode"))])
+            try:
+                change({}, held, "hold", [checked("hold", f"{part}={_text(act, 'mode')}", self.bench.known.name_of)])
+            except ValueError as error:
+                raise Bad(str(error)) from error
         self._change(self.record.with_held(held))
 
     def _pattern(self, act: Mapping[str, Any]) -> None:
@@ -488,7 +493,8 @@ class Board:
         return {
             "version": self.version, "title": bench.title, "restarts": bench.service.restarts, "now": record.now,
             "patterns": [
-                {"name": name, "seen": list(case.seen.items()), "expected": list(expected.items()), "against": _against(case.seen, expected)}
+                {"name": name, "seen": list(case.seen.items()), "expected": list(expected.items()),
+                 "against": _against(case.seen, expected)}
                 for (name, case), expected in zip(record.board.patterns.items(), answers.expected)
             ],
             "held": list(record.board.held.items()), "unreachable": sorted(record.unreachable), "replaced": record.replaced,

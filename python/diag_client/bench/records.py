@@ -122,15 +122,6 @@ class Known:
             raise Bad(f"no part {shown(name)}")
         return here
 
-    def mode(self, part: str, mode: str) -> tuple[str, Mode]:
-        """A part and how it was tested."""
-        here = self.part(part)
-        if mode == "ok":
-            return here, "ok"
-        if mode == "bad":
-            return here, "bad"
-        raise Bad(f"{part}={shown(mode)}: a part was tested ok or bad")
-
     def name_of(self, command: str, name: str) -> str:
         """The name that counts for one in a line of a script."""
         return self.wire(name) if command.endswith("see") else self.part(name)
@@ -173,6 +164,8 @@ def read_readings(text: str, known: Known) -> list[tuple[str, dict[str, int | No
             if board.held:
                 raise Bad("tests of parts are in this script: take it by Load")
             return [(name, dict(case.seen)) for name, case in board.patterns.items()]
+        if len(lines) < 2 and not any("=" in line for line in lines):
+            raise Bad(f"{shown(text.strip())!r} is no reading: write a=0 b=1")
         if not any("=" in line for line in lines) or SEPARATOR.fullmatch(lines[0]):
             names = {wire: wire for wire in known.wires} | dict(known.others)
             return [(name, dict(seen)) for name, seen in rows_of("the table", cells_of("the table", text, names), names)]

@@ -228,7 +228,8 @@ class Handler(http.server.BaseHTTPRequestHandler):
         drawing = bench.drawing(is_open, board.cone() if act.get("wrong") is True else None)
         kinds = bench.scene.device.blocks
         own = {"inputs": bench.scene.inputs, "outputs": bench.scene.outputs, "frames": bench.frames, "has_levels": bench.has_levels}
-        return drawing | own | {"title": bench.title, "others": bench.other_names, "open": sorted(is_open & kinds.keys()), "is_design": bool(kinds)}
+        named = {"title": bench.title, "others": bench.other_names, "open": sorted(is_open & kinds.keys()), "is_design": bool(kinds)}
+        return drawing | own | named
 
     def _check(self) -> None:
         """Refuses what comes by another name, or from another page."""
@@ -284,7 +285,8 @@ class Handler(http.server.BaseHTTPRequestHandler):
         except Bad as error:
             self._json(422, {"error": str(error)})
         except Gone:
-            self._json(404, {"error": "there is no such board here: the program was started again, or the board is gone. Save the case, open the address that the program printed, and load it."})
+            why = "there is no such board here: the program was started again, or the board is gone"
+            self._json(404, {"error": f"{why}. Save the case, open the address that the program printed, and load it."})
         except DiagError as error:
             self._json(503, {"error": f"the program does not answer: {error}"})
 

@@ -131,10 +131,6 @@ class SharedService(Service):
                 self.restart()
                 self.restarts += 1
 
-    def close(self) -> None:
-        with self._turns.taken(CLICK):
-            super().close()
-
     def _errand(self) -> Errand:
         errand: Errand | None = getattr(self._here, "errand", None)
         return errand or Errand(CLICK, self.restarts, lambda: False)

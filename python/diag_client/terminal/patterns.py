@@ -20,11 +20,16 @@ MORE_PATTERNS = {
     "drop": ("drop NAME", "takes a pattern away, with its readings"),
     "pattern": ("pattern NAME", "begins a test pattern of the same board, or goes back to one; see belongs to it, hold to the board"),
     "patterns": ("patterns", "the patterns: the present one has a star"),
-    "this": ("this COMMAND ..", "min, next, list, probe, probes, blame or best for the present pattern alone; without `this` they are for all together, and probes is slower"),
+    "this": (
+        "this COMMAND ..",
+        "min, next, list, probe, probes, blame or best for the present pattern alone; without `this` they are for all together, and"
+        " probes is slower",
+    ),
 }
 # What is asked for all patterns together once there are two, and what has an answer for one pattern alone.
 TOGETHER = ("min", "next", "list", "probe", "probes", "blame", "best")
 ALONE = ("after", "level", "levels", "dnnf", "leastnnf", "expect", "case", "picture")
+
 
 class BoardShell(Shell):
     """The terminal, with patterns. With one pattern alone it is the plain terminal."""
@@ -53,7 +58,7 @@ class BoardShell(Shell):
         self._told_since = (0, 0)
 
     def carry_out_line(self, line: str) -> bool:
-        """Carries out a line, as one of `all` or of `this` if there are several patterns and it is for all of them or for the present one."""
+        """Carries out a line. If there are several patterns, one for all of them is one of `all`, and one for the present one of `this`."""
         try:
             return super().carry_out_line(f"{self._whose(line.split(None, 1))} {line.strip()}".lstrip())
         finally:

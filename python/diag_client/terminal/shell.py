@@ -6,6 +6,7 @@ import cmd
 import collections
 import dataclasses
 import difflib
+import functools
 import io
 import os
 import pathlib
@@ -74,8 +75,11 @@ COUNTED = {
 }
 # What to do about a refusal of the program, by its text.
 CURES = {
-    "line too long": "a line has at most 1048576 bytes", "no levels": "start the terminal with --levels C", "no least": "start the terminal with --least",
-    "full": f"each pattern is a session, and a search opens one more for each: at most {LIMITS['sessions'][1] // 2} patterns can be searched, and one fewer by probe",
+    "line too long": "a line has at most 1048576 bytes",
+    "no levels": "start the terminal with --levels C",
+    "no least": "start the terminal with --least",
+    "full": "each pattern is a session, and a search opens one more for each: at most"
+    f" {LIMITS['sessions'][1] // 2} patterns can be searched, and one fewer by probe",
 }
 # What a refusal begins with.
 REFUSED = "refused: "
@@ -126,7 +130,7 @@ class Shell(cmd.Cmd):
 
     def onecmd(self, line: str) -> bool:
         """Carries out a line, and says in words what is refused. Lines that were pasted may come as one."""
-        return any(self.carry_out_line(self._plain(part)) for part in PASTED.sub("", line).split("\r"))
+        return any(self.carry_out_line(self._plain(part)) for part in re.split("[\r\n]+", PASTED.sub("", line)))
 
     def _plain(self, line: str) -> str:
         """A line with the terminal's own word for its command."""
@@ -293,22 +297,15 @@ class Shell(cmd.Cmd):
 
         return sorted(wires, key=lambda wire: (is_inner(wire), _natural(wire)))
 
-    def do_wires(self, _: str) -> bool:
-        """The names of the wires."""
-        return self._list_names(self._waited("wires", lambda: self.service.wires))
-
-    def do_parts(self, _: str) -> bool:
-        """The names of the parts."""
-        return self._list_names(self._waited("parts", lambda: self.service.parts))
-
-    def do_inputs(self, _: str) -> bool:
-        """The names of the inputs."""
-        return self._list_names(self.service.inputs)
-
-    def _list_names(self, names: Iterable[str]) -> bool:
-        text = " ".join(sorted(names, key=_natural))
-        self.say(textwrap.fill(text, WIDTH, break_long_words=False, break_on_hyphens=False) or "none")
+    def _list_names(self, kind: str, _: str) -> bool:
+        """The names of the wires, of the parts or of the inputs."""
+        names = sorted(self._waited(kind, lambda: getattr(self.service, kind)), key=_natural)
+        self.say(textwrap.fill(" ".join(names), WIDTH, break_long_words=False, break_on_hyphens=False) or "none")
         return False
+
+    do_wires = functools.partialmethod(_list_names, "wires")
+    do_parts = functools.partialmethod(_list_names, "parts")
+    do_inputs = functools.partialmethod(_list_names, "inputs")
 
     def do_restart(self, _: str) -> bool:
         """The program anew."""

@@ -22,9 +22,12 @@ from ..session import Session
 from .results import Outcome, answered, failed, refused
 from .stream import BOARD, DEVICE, NAMING, PATTERN, BadReading, BoardRows, Layout, Row
 
-# So many boards are asked at once, while the replies to as many before them are read; and so many seconds are between two looks at these.
-AT_ONCE = 64
+# So many boards are asked at once, while the replies to as many before them are read.
+AT_ONCE = 128
+# So many seconds are between two looks at the replies, and so often this is done: each piece of a reply that wakes this process may stop the
+# program, and they may as well be read many at a time.
 NAP = 0.001
+NAPS = 20
 # So many cells are looked up at a time.
 AT_A_TIME = 8
 # So many replies that several boards may have are kept, and texts of cells that several rows may have.
@@ -33,7 +36,7 @@ MOST_KNOWN = 10_000
 MOST_PATTERNS = LIMITS["sessions"][1] // 2 - 1
 # The session that each board of one pattern has for itself.
 NAME = "S"
-OPENED, TAKEN, CLOSED = f"{NAME} open", f"{NAME} ok", f"{NAME} closed"
+OPENED, TAKEN, CLOSED = f"{NAME} open\n", f"{NAME} ok\n", f"\n{NAME} closed\n"
 LISTED, NOTHING, BLAMED = f"{NAME} diag", f"{NAME} inconsistent", f"{NAME} blame "
 # How a program is lost.
 LOST = (Ended, TimeoutError)
@@ -175,37 +178,33 @@ class Columns:
 
 
 class Asked(Request):
-    """All lines of a board that has one pattern, from `open` to `close`, and their replies."""
+    """All lines of some boards that have one pattern each, from `open` to `close`, and their replies."""
 
-    def __init__(self, seen: str, ends: str) -> None:
+    takes_text = True
+
+    def __init__(self, seen: Sequence[str], ends: str) -> None:
         super().__init__(NAME, f"open {NAME}")
-        self._text = f"open {NAME}\n{seen}{ends}"
-        self._seen = seen.count("\n")
-        self._lines: list[str] = []
+        self._text = "".join([f"open {NAME}\n{lines}{ends}" for lines in seen])
+        self._left = len(seen)
+        self._begun = ""
+        # Of each board that is answered all lines but the last one.
+        self.replies: list[str] = []
 
     @property
     def sent(self) -> str:
         return self._text
 
+    def take_text(self, text: str) -> str:
+        *whole, rest = (self._begun + text).split(CLOSED, self._left)
+        self.replies += whole
+        self._left -= len(whole)
+        self.is_answered = not self._left
+        self._begun = "" if self.is_answered else rest
+        return rest if self.is_answered else ""
+
     def take_from(self, lines: Sequence[str], place: int) -> int:
-        try:
-            end = lines.index(CLOSED, place) + 1
-            self.is_answered = True
-        except ValueError:
-            end = len(lines)
-        self._lines += lines[place:end]
-        return end
-
-    def reply(self) -> list[str] | None:
-        """The replies to what is asked once all was seen; None if something was refused."""
-        first = self._seen + 1
-        told = self._lines[first:-1]
-        return told if told and self._lines[0] == OPENED and self._lines[1:first].count(TAKEN) == self._seen else None
-
-    def unexpected(self) -> Outcome:
-        """What is said if something was refused."""
-        wrong = next((line for line in self._lines if line not in (OPENED, TAKEN, CLOSED)), self._lines[0])
-        return failed(f"unexpected reply: {wrong}")
+        rest = self.take_text("".join(f"{line}\n" for line in lines[place:]))
+        return len(lines) - rest.count("\n")
 
 
 def outcome_of(told: Sequence[str], wanted: Wanted) -> Outcome:
@@ -246,7 +245,8 @@ class Pattern:
     seen: Mapping[str, int]
 
 
-Question = Asked | list[Pattern] | BadReading
+# The lines of what was seen if a board has one pattern, or its patterns; or what is wrong with a row.
+Question = str | list[Pattern] | BadReading
 
 
 class Desk:
@@ -260,8 +260,6 @@ class Desk:
         self._wires = self._service.wires
         self._columns: dict[Layout, Columns] = {}
         self._known: dict[str, Outcome] = {}
-        # Whether many boards are asked at once.
-        self._is_plain = True
         blames = f"blame {NAME}\n" if wanted.blame else ""
         # One more shows whether these are all.
         self._ends = f"min {NAME}\nlist {NAME} {wanted.limit + 1}\n{blames}close {NAME}\n"
@@ -312,56 +310,72 @@ class Desk:
         if not self._service.is_running:
             self._service = self._started()
         self._service.limit(self._wanted.timeout)
-        self._is_plain = not (self._wanted.next or self._wanted.seconds) and all(len(board.rows) == 1 for board in boards)
-        size, ahead = (AT_ONCE, 1) if self._is_plain else (1, 0)
-        waiting: collections.deque[list[Question]] = collections.deque()
+        is_plain = not (self._wanted.next or self._wanted.seconds) and all(len(board.rows) == 1 for board in boards)
+        # If a board may take only so long, each is waited for by itself.
+        size, ahead = (AT_ONCE, 1) if is_plain and self._wanted.timeout is None else (1, AT_ONCE if is_plain else 0)
+        waiting: collections.deque[tuple[list[Question], Asked]] = collections.deque()
         for first in range(0, len(boards), size):
             begun = time.monotonic()
-            chunk = [self._question(columns, board) for board in boards[first:first + size]]
+            questions = [self._question(columns, board) for board in boards[first:first + size]]
+            asked = Asked([question for question in questions if isinstance(question, str)], self._ends)
             # A program that has ended is lost at the first board that waits.
             with contextlib.suppress(Ended):
-                self._service.send([question for question in chunk if isinstance(question, Asked)])
-            waiting.append(chunk)
+                self._service.send([asked] if asked.sent else [])
+            waiting.append((questions, asked))
             if len(waiting) > ahead:
-                yield from self._settled(waiting.popleft(), begun)
-        for chunk in waiting:
-            yield from self._settled(chunk, begun)
+                yield from self._settled(*waiting.popleft(), begun)
+        for questions, asked in waiting:
+            yield from self._settled(questions, asked, begun)
 
     def _question(self, columns: Columns, board: BoardRows) -> Question:
         """What is asked of a board, or what is wrong with its rows."""
         try:
             if len(board.rows) == 1 and board.name and not self._wanted.next:
-                return Asked(columns.script(board.rows[0]), self._ends)
+                return columns.script(board.rows[0])
             _check_rows(board, columns.layout)
             return [Pattern(columns.label(row) or f"p{place}", columns.seen(row)) for place, row in enumerate(board.rows, 1)]
         except BadReading as error:
             return error
 
-    def _settled(self, chunk: Iterable[Question], begun: float) -> Iterator[Outcome]:
-        for question in chunk:
-            if isinstance(question, Asked):
-                outcome = self._answered(question)
+    def _settled(self, questions: Iterable[Question], asked: Asked, begun: float) -> Iterator[Outcome]:
+        lost = self._waited_for(asked)
+        replies = iter(asked.replies)
+        for question in questions:
+            if isinstance(question, str):
+                reply = next(replies, None)
+                if reply is None:
+                    raise lost or ValueError("a board has no reply")
+                outcome = self._answered(question, reply)
             elif isinstance(question, BadReading):
                 outcome = refused(str(question), question.line, question.column, question.word)
             else:
                 outcome = self._searched(question)
             yield outcome.with_seconds(time.monotonic() - begun) if self._wanted.seconds else outcome
 
-    def _answered(self, asked: Asked) -> Outcome:
+    def _waited_for(self, asked: Asked) -> Exception | None:
+        """Waits for the replies to some boards, and gives what the program, or the time, was lost by."""
+        try:
+            for _ in range(NAPS):
+                if asked.is_answered or not asked.sent or not self._service.is_behind:
+                    break
+                time.sleep(NAP)
+            if asked.sent:
+                self._service.wait_for(asked)
+        except LOST as error:
+            return error
+        return None
+
+    def _answered(self, seen: str, reply: str) -> Outcome:
         """What is said of a board of one pattern. Boards with the same faults have the same replies."""
-        if not asked.is_answered:
-            # Each piece of a reply that wakes this process may stop the program, whose replies may as well be read some at a time.
-            time.sleep(NAP if self._is_plain else 0)
-            self._service.wait_for(asked)
-        told = asked.reply()
-        if told is None:
-            return asked.unexpected()
-        key = "\n".join(told)
+        begin = OPENED + TAKEN * seen.count("\n")
+        if not reply.startswith(begin):
+            return failed(f"unexpected replies: {' '.join(line for line in reply.splitlines() if line not in (OPENED.strip(), TAKEN.strip()))}")
+        key = reply[len(begin):]
         outcome = self._known.get(key)
         if outcome is None:
             if len(self._known) >= MOST_KNOWN:
                 self._known.clear()
-            outcome = self._known[key] = outcome_of(told, self._wanted)
+            outcome = self._known[key] = outcome_of(key.split("\n"), self._wanted)
         return outcome
 
     def _searched(self, patterns: Sequence[Pattern]) -> Outcome:

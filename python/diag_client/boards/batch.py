@@ -51,7 +51,9 @@ def processors() -> int:
 
 def make_pool(jobs: int | None, cluster: str | None) -> Pool:
     """The workers: processes on this machine, or those of a cluster."""
-    return Processes(processors() if jobs is None else jobs) if cluster is None else Cluster(cluster)
+    if cluster is not None:
+        return Cluster(cluster)
+    return Processes(processors() if jobs is None else jobs)
 
 
 class Answering:

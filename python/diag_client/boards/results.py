@@ -5,6 +5,7 @@ from __future__ import annotations
 import collections
 import csv
 import dataclasses
+import functools
 import io
 import json
 from collections.abc import Iterable, Mapping, Sequence
@@ -20,6 +21,8 @@ REASONS = ("reason", "line", "column", "word")
 MOST_SUSPECTS = 20
 
 END = "}\n"
+# The parts that are in some sets, and those that are in all.
+Suspects = tuple[frozenset[str], frozenset[str]]
 
 encoded = json.JSONEncoder().encode
 
@@ -49,6 +52,11 @@ class Result:
         return cls(**found)
 
 
+def suspects_of(sets: Sequence[Sequence[str]]) -> Suspects:
+    """The parts that are in some sets, and in all of them."""
+    return frozenset().union(*sets), frozenset(sets[0] if sets else ()).intersection(*sets)
+
+
 @dataclasses.dataclass(frozen=True, eq=False)
 class Outcome:
     """What is said of a board, without its name: many boards have the same. `text` is what follows the name in a line of results."""
@@ -62,6 +70,11 @@ class Outcome:
         """What is said, and what more was asked for, or why there is no answer."""
         said = {"status": status, "cost": cost, "diagnoses": sets, "complete": complete, **more}
         return cls(status, sets, ", " + encoded(said)[1:] + "\n")
+
+    @functools.cached_property
+    def suspects(self) -> Suspects:
+        """The parts that are in some of the sets, and in all of them."""
+        return suspects_of(self.sets)
 
     def with_seconds(self, seconds: float) -> Outcome:
         """The same, and how long it took."""
@@ -138,15 +151,14 @@ class Tally:
     always: collections.Counter[str] = dataclasses.field(default_factory=collections.Counter)
     faulty: int = 0
 
-    def count(self, status: str, sets: Sequence[Sequence[str]], boards: int = 1) -> None:
-        """So many boards more with this status and these sets."""
+    def count(self, status: str, suspects: Suspects, boards: int = 1) -> None:
+        """So many boards more with this status and these suspects."""
+        some, always = suspects
         self.statuses[status] += boards
-        if not sets or not sets[0]:
-            return
-        self.faulty += boards
-        for part in set().union(*sets):
+        self.faulty += boards if some else 0
+        for part in some:
             self.some[part] += boards
-        for part in set(sets[0]).intersection(*sets[1:]):
+        for part in always:
             self.always[part] += boards
 
     def add(self, other: Tally) -> None:

@@ -13,7 +13,7 @@ from typing import Any
 
 from ..child import interrupts_held_back
 from ..errors import DiagError, shown
-from .results import KEYS, FlatTable, Tally
+from .results import KEYS, FlatTable, Tally, suspects_of
 from .stream import BoardRows
 
 STANDARD_OUTPUT = "-"
@@ -67,7 +67,7 @@ class ResultsFile:
                     if (found := self._read(number, line)) is None:
                         break
                     self._compare(number, found, next(boards, None))
-                    tally.count(found["status"], found["diagnoses"])
+                    tally.count(found["status"], suspects_of(found["diagnoses"]))
                     self._end += len(line)
         self._is_begun = True
         self.cut()

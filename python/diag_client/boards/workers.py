@@ -116,7 +116,7 @@ class Answers:
         lines = [outcome.line(board.name) for board, outcome in zip(boards, outcomes, strict=True)]
         tally = Tally()
         for outcome, count in collections.Counter(outcomes).items():
-            tally.count(outcome.status, outcome.sets, count)
+            tally.count(outcome.status, outcome.suspects, count)
         return cls("".join(lines).encode("ascii"), tally, seconds)
 
     @classmethod

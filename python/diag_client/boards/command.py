@@ -51,8 +51,9 @@ def add_words(parser: argparse.ArgumentParser) -> None:
     parser.add_argument("--summary", action="store_true", help=summary)
     parser.add_argument("--ignore", action="append", default=[], metavar="NAME", help="a column that is no wire; may be given again")
     parser.add_argument("--timeout", type=_seconds, metavar="S", help="a board may take S seconds")
-    parser.add_argument("--jobs", type=_from_one, metavar="N", help="use N processes of the program; else one for each processor")
-    parser.add_argument("--cluster", metavar="ADDRESS", help="use the workers of a Dask cluster, whose scheduler is there")
+    workers = parser.add_mutually_exclusive_group()
+    workers.add_argument("--jobs", type=_from_one, metavar="N", help="use N processes of the program; else one for each processor")
+    workers.add_argument("--cluster", metavar="ADDRESS", help="use the workers of a Dask cluster, whose scheduler is there")
     parser.add_argument("--check", choices=["clasp"], help="compare each result with gringo and clasp, and count differences")
 
 

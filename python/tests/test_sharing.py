@@ -7,10 +7,9 @@ import inspect
 import pickle
 import signal
 import threading
-import time
 import unittest
 
-from support import C17, SOON, kill, needs_program, stand_in
+from support import C17, SOON, kill, needs_program, stand_in, wait_until
 
 from diag_client import Case, Changed, DiagError, Diagnosis, Ended, Inconsistent, Refused, Service, TimedOut
 from diag_client.bench.shared import SharedService
@@ -21,6 +20,11 @@ CASE = {**ZERO, "22": 1, "23": 0}
 
 def served(how, **options):
     return Service("any.bench", program=stand_in(how), **options)
+
+
+def wait_until_awaited(service):
+    """Waits until another thread has written what it asks, and waits for the reply."""
+    wait_until(lambda: service._child._awaited and not service._child._unsent)
 
 
 @needs_program
@@ -109,8 +113,7 @@ class Threads(unittest.TestCase):
             service._child._timeout = SOON
             asking = threading.Thread(target=session.minimum)
             asking.start()
-            while not service.is_behind:
-                time.sleep(0.01)
+            wait_until_awaited(service)
             service._child._timeout = 0.3
             with self.assertRaises(TimedOut):
                 session.see(a=1)
@@ -124,8 +127,7 @@ class Threads(unittest.TestCase):
         """Whoever waits is told at once."""
         with served("dozes") as service, service.session("S") as session, concurrent.futures.ThreadPoolExecutor(1) as pool:
             asked = pool.submit(session.minimum)
-            while not service.is_behind:
-                time.sleep(0.01)
+            wait_until_awaited(service)
             service.stop()
             self.assertIsInstance(asked.exception(SOON), Ended)
 
@@ -170,8 +172,7 @@ class Closed(unittest.TestCase):
         session = service.session("S")
         with concurrent.futures.ThreadPoolExecutor(1) as pool:
             asked = pool.submit(session.minimum)
-            while not service.is_behind:
-                time.sleep(0.01)
+            wait_until_awaited(service)
             service._child._timeout = 0.3
             with self.assertLogs("diag_client", "WARNING"):
                 service.close()

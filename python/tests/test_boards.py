@@ -226,15 +226,17 @@ class Results(Case):
 
     @unittest.skipUnless(shutil.which("gringo") and shutil.which("clasp"), "there is no gringo and clasp")
     def test_check(self):
-        """clasp finds the same over gates, types and times; and a difference is counted."""
+        """clasp finds the same over gates, types, times and patterns; and a difference is counted."""
         for file, text, words in (
             (C17, TABLE + f"B4,{BOTH}\n", ()),
+            (C17, f"pattern,{HEADER}one,A,{WRONG}\ntwo,A,1,0,1,0,0,1,1\none,B,{BOTH}\n", ()),
             (EXAMPLES / "pump.dev", "board,switch,ready,inlet,outlet,pressure,power\nA,1,1,0,,,\nB,1,1,0,0,0,1\nC,0,1,1,0,,\nD,1,0,1,1,1,\n", ()),
             (EXAMPLES / "frames/toggle.bench", "board,q@0001,q@0002,q@0003\nA,0,0,0\nB,1,0,1\nC,1,1,0\n", ("--frames", "3")),
         ):
             with self.subTest(file.name):
                 status, _, said = self.run_boards(text, "--check", "clasp", *words, file=file)
-                self.assertEqual((status, said), (0, f"clasp: {text.count(chr(10)) - 1} results compared, 0 differ, 0 left out\n"))
+                boards = 2 if "pattern" in text else text.count("\n") - 1
+                self.assertEqual((status, said), (0, f"clasp: {boards} results compared, 0 differ, 0 left out\n"))
         from diag_client.boards import cross_check, stream
 
         check = cross_check.CrossCheck(stream.Layout(("board", "22"), ","), 10, None)

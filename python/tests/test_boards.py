@@ -114,6 +114,15 @@ class Readings(Case):
         ])
         self.assertEqual([found["board"] for found in self.answered(text) if found["status"] == "ok"], ["B1", "B7"])
 
+    def test_quotes(self):
+        """Those around a cell may hold a line feed, and those within one are signs as others are."""
+        text = HEADER + f'B 5",{WRONG}\nB 7",{SOUND}\n"B\n8",{BOTH}\n"B 9,{WRONG}\nB 10,{WRONG}\n'
+        found = self.answered(text)
+        self.assertEqual([(row["board"], row["status"]) for row in found], [
+            ('B 5"', "ok"), ('B 7"', "ok"), ("B 8", "ok"), ('"B 9', "refused"), ("B 10", "ok"),
+        ])
+        self.assertEqual([row["diagnoses"] for row in found], [[["10"], ["22"]], [[]], [["16"]], [], [["10"], ["22"]]])
+
     def test_refused_objects(self):
         text = '{"board": "A", "1": 0}\n{"board": "B", "1": 2}\n{"board": "C", "9": 1}\n[1]\n{"board": \n{"board": ""}\n{"1": 0}\n'
         self.assertEqual(self.refused(text), [("B", 2, "1", "2"), ("C", 3, "9", "1"), ("", 4, None, None), ("", 5, None, None), ("", 6, "board", "")])

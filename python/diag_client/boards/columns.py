@@ -78,7 +78,7 @@ class Columns:
                 found = json.loads(row[1])
                 return "".join([self._by_name[name][value] for name, value in found.items()])
             rest = row[1].split(self.layout.sign, self._first)[-1]
-            if self._pieces and len(rest) == 2 * (len(self._tables) - self._first) - 1:
+            if self._pieces and len(rest) == 2 * (len(self._tables) - self._first) - 1 and '"' not in row[1]:
                 return "".join([piece[rest[place:place + 2 * AT_A_TIME]] for piece, place in zip(self._pieces, self._places)])
             cells = self.layout.cells(row)
             if len(cells) == len(self._tables) and not self._has_pairs:

@@ -190,15 +190,15 @@ class Readings:
         first = next(self._rows_among(self._lines, ""), None)
         if first is None:
             raise BadTable(f"{self.title}: no rows: a first row with the names of wires is needed, and then a row for each board")
-        self._lines = itertools.chain([first], self._lines)
         if first[1].lstrip(BLANKS).startswith("{"):
+            self._lines = itertools.chain([first], self._lines)
             return Layout(ignored=self._ignored)
-        self._lines = _joined(self._lines)
-        row = next(self._lines)
-        told = SEPARATOR.fullmatch(row[1].strip(" "))
+        told = SEPARATOR.fullmatch(first[1].strip(" "))
         if told:
-            row = next(self._rows_among(self._lines, ""), (row[0], ""))
-        sign = told[1] if told else sign_in(row[1].strip())
+            first = next(self._rows_among(self._lines, ""), (first[0], ""))
+        sign = told[1] if told else sign_in(first[1].strip())
+        self._lines = _joined(itertools.chain([first], self._lines), sign)
+        row = next(self._lines)
         names = [cell.strip(BLANKS) for cell in Layout((), sign).cells(row)]
         columns = [name.lower() if name.lower() in NAMING else name for name in names]
         while columns and not columns[-1]:
@@ -225,7 +225,7 @@ class Readings:
                 yield row
 
 
-def _joined(rows: Iterator[Row]) -> Iterator[Row]:
+def _joined(rows: Iterator[Row], sign: str) -> Iterator[Row]:
     """Rows whose cells in quotes may have more than one line. A quote that nothing closes is in one row alone."""
     waiting: collections.deque[Row] = collections.deque()
 
@@ -235,13 +235,21 @@ def _joined(rows: Iterator[Row]) -> Iterator[Row]:
         return next(rows, None)
 
     while (row := following()) is not None:
-        more: list[Row] = []
-        is_open = row[1].count('"') % 2 == 1
-        while is_open and len(more) < LONGEST_CELL and (after := following()) is not None:
+        text, more = row[1], list[Row]()
+        while (is_open := _is_open(text, sign)) and len(more) < LONGEST_CELL and (after := following()) is not None:
             more.append(after)
-            is_open = after[1].count('"') % 2 == 0
-        if more and not is_open:
-            row = row[0], "\n".join(text for _, text in [row, *more])
-        else:
+            text = f"{text}\n{after[1]}"
+        if is_open:
             waiting.extendleft(reversed(more))
-        yield row
+        yield row if is_open else (row[0], text)
+
+
+def _is_open(text: str, sign: str) -> bool:
+    """Whether a row ends within quotes."""
+    if text.count('"') % 2 == 0:
+        return False
+    try:
+        next(csv.reader([text], delimiter=sign, strict=True))
+    except csv.Error as error:
+        return "end of data" in str(error)
+    return False

@@ -130,7 +130,7 @@ class Desk:
     def __init__(self, file: str, wanted: Wanted) -> None:
         self._file = file
         self._wanted = wanted
-        self._service = self._started()
+        self._service = Service(file, **wanted.options)
         self._others = self._service.other_names
         self._wires = self._service.wires
         self._columns: dict[Layout, Columns] = {}
@@ -162,16 +162,6 @@ class Desk:
         """Ends the program."""
         self._service.stop()
 
-    def _started(self) -> Service:
-        """The program, ready. One that a signal ends is started once more, since the device need not be the reason."""
-        try:
-            service = Service(self._file, **self._wanted.options)
-        except Ended as ended:
-            if ended.status >= 0:
-                raise
-            service = Service(self._file, **self._wanted.options)
-        return service
-
     def _once_more(self, columns: Columns, board: BoardRows) -> Outcome:
         """A board at which the program was lost, or the time."""
         self._service.stop()
@@ -184,7 +174,7 @@ class Desk:
     def _asked(self, columns: Columns, boards: Sequence[BoardRows]) -> Iterator[Outcome]:
         """What is said of each board, as it comes. Raises what lost the program at the first one that is not answered."""
         if not self._service.is_running:
-            self._service = self._started()
+            self._service = Service(self._file, **self._wanted.options)
         self._service.limit(self._wanted.timeout)
         is_plain = not (self._wanted.next or self._wanted.seconds) and all(len(board.rows) == 1 for board in boards)
         self._naps = NAPS if is_plain else 0

@@ -4,7 +4,9 @@ from __future__ import annotations
 
 import contextlib
 import importlib
+import math
 import sys
+import time
 import uuid
 from concurrent.futures import Future
 from typing import Any
@@ -16,6 +18,8 @@ from .workers import Batch, Device, UnusableCluster
 
 # So many seconds the scheduler may take to answer, and the first worker to be there.
 PATIENCE = 30
+# So many seconds at least are between two times that it is asked for the number of its workers.
+PAUSE = 1.0
 NEEDED = "`pip install 'diag-client[cluster]'`, or Debian's python3-distributed"
 
 
@@ -30,6 +34,8 @@ class Cluster:
     def __init__(self, address: str) -> None:
         self._address = address
         self._run = uuid.uuid4().hex
+        self._size = 0
+        self._counted = -math.inf
         try:
             distributed: Any = importlib.import_module("distributed")
         except ModuleNotFoundError:
@@ -49,8 +55,11 @@ class Cluster:
 
     @property
     def size(self) -> int:
-        """How many threads there are now."""
-        return sum(map(int, self._client.nthreads().values()))
+        """How many threads there are. The scheduler is asked now and then, since workers may come and go."""
+        now = time.monotonic()
+        if now - self._counted > PAUSE:
+            self._counted, self._size = now, sum(self._client.nthreads().values())
+        return self._size
 
     def device(self, path: str) -> Device:
         """A device as the workers get it."""

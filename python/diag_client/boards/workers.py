@@ -270,8 +270,10 @@ class _Worker:
             process.kill()
             process.wait()
             for end in (process.stdin, process.stdout):
-                with contextlib.suppress(OSError):
-                    end and end.close()
+                if end is not None:
+                    # What was not written yet cannot be.
+                    with contextlib.suppress(OSError):
+                        end.close()
 
     def start(self) -> subprocess.Popen[bytes]:
         """The process, which is started if there is none."""

@@ -212,7 +212,7 @@ class Results(Case):
         for text, words, status in (
             (TABLE, (), 0), (TABLE + "B,2,0,0,0,0,0,0\n", (), 1), (TABLE, ("--jobs", "0"), 2), (TABLE, ("--list", "x"), 2),
             (TABLE, ("--budget", "1"), 1), (TABLE, ("--timeout", "0"), 2), (TABLE, ("--resume",), 2), (TABLE, ("-o", "/dev/full"), 1),
-            (TABLE, ("--cluster", "tcp://127.0.0.1:1"), 1), (TABLE, ("--frames", "0"), 1),
+            (TABLE, ("--cluster", "tcp://127.0.0.1:1"), 1), (TABLE, ("--frames", "0"), 1), (TABLE, ("--jobs", "1", "--cluster", "tcp://127.0.0.1:1"), 2),
         ):
             with self.subTest(words):
                 found, _, said = self.run_boards(text, *words)

@@ -31,6 +31,8 @@ from .stream import DEVICE, BoardRows, Layout
 MOST_DESKS = 32
 # The exit statuses of the program for a device that it refuses.
 FAULTY, TOO_WIDE = 1, 3
+# The tables with other names of wires, which `diag-netlist` writes beside a device.
+TABLES = (".names", ".pins")
 # So many columns that are wrong are named.
 MOST_SHOWN = 5
 # What a worker runs. It takes this package from where this process has it, and nothing from the folder that it is started in.
@@ -50,7 +52,7 @@ class WorkerLost(DiagError):
 
 @dataclasses.dataclass(frozen=True)
 class Device:
-    """A device by the path of its file; for a machine that has no such file, with what is in it and in its table of names."""
+    """A device by the path of its file; for a machine that has no such file, with what is in it and in the tables beside it."""
 
     path: str
     files: Mapping[str, bytes] | None = None
@@ -58,7 +60,7 @@ class Device:
     @classmethod
     def packed(cls, path: str) -> Device:
         """A device for other machines. If its file cannot be read, the worker says so."""
-        names = (path, f"{path}.names")
+        names = [path + ending for ending in ("", *TABLES)]
         try:
             read = {name: pathlib.Path(name).read_bytes() for name in names if name == path or os.path.exists(name)}
             return cls(path, {os.path.basename(name): zlib.compress(data) for name, data in read.items()})

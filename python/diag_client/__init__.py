@@ -15,8 +15,10 @@ measure 10: of 2 diagnoses 1 goes on with 0 and 1 with 1, so that 1.0 are expect
 
 from . import interrupts as interrupts  # noqa: F401 # First, for what an interrupt does while the rest is loaded.
 from .advice import Proposal
+from .boards.batch import diagnose_boards
 from .boards.holding import JointProgress
 from .boards.joint import Joint, JointProposal
+from .boards.results import Result
 from .boards.tables import BadTable
 from .case import Board, Case, Mode
 from .errors import BadScript, Changed, DiagError, Ended, Inconsistent, NotBuilt, OtherProcess, Refused, TimedOut
@@ -50,9 +52,11 @@ __all__ = [
     "Probe",
     "Proposal",
     "Refused",
+    "Result",
     "Service",
     "Session",
     "TimedOut",
     "Verdict",
+    "diagnose_boards",
     "find_program",
 ]

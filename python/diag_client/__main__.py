@@ -8,6 +8,7 @@ import os
 import sys
 
 from . import bench, interrupts, progress
+from .boards import command as boards
 from .errors import DiagError, sentence
 from .files import drop_unwritten, open_streams
 from .hints import as_options
@@ -42,6 +43,8 @@ def words_of() -> argparse.ArgumentParser:
     asks.add_argument("--patterns", metavar="TABLE", help=begin)
     opens = commands.add_parser("bench", parents=[served], prog=own, help="open a page on which readings are entered by clicking wires")
     bench.add_words(opens)
+    answers = commands.add_parser("boards", parents=[served], prog=own, help="answer a table with the readings of many boards")
+    boards.add_words(answers)
     return parser
 
 
@@ -49,6 +52,8 @@ def run(words: argparse.Namespace) -> int:
     """Does what the words say, and gives the exit status."""
     if words.command == "bench":
         return bench.run(words)
+    if words.command == "boards":
+        return boards.run(words)
     given = progress.options_in(words)
     if words.command == "picture":
         return pictures.draw(words, lambda: progress.serve(words.file, **given))

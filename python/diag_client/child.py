@@ -170,6 +170,16 @@ class Child:
                 self._awaited += [*closings, *requests]
                 self._watch(self._input, selectors.EVENT_WRITE)
 
+    def limit(self, timeout: float | None) -> None:
+        """From now on each wait takes at most so many seconds."""
+        self._timeout = timeout
+
+    def wait_for(self, request: Request) -> None:
+        """Waits for the reply to something that was sent."""
+        if self._over is not None and not request.is_answered:
+            raise self.ended()
+        self._finish_reply(request)
+
     def catch_up(self) -> None:
         """Waits for what an interrupt left to be answered."""
         if not self.is_own:
@@ -316,12 +326,18 @@ class Child:
         if not feed:
             return
         self._begun = rest
-        lines = self._text(whole).split("\n")
-        self._last_line = lines[-1]
+        text = self._text(whole)
+        self._last_line = text.rpartition("\n")[2]
         if LOG.isEnabledFor(logging.DEBUG):
-            for line in lines:
+            for line in text.split("\n"):
                 LOG.debug("from %d: %s", self._process.pid, line)
-        self._hand(lines)
+        text += "\n"
+        while text and self._awaited and self._awaited[0].takes_text:
+            text = self._awaited[0].take_text(text)
+            if self._awaited[0].is_answered:
+                self._awaited.popleft()
+        if text:
+            self._hand(text.removesuffix("\n").split("\n"))
 
     def _hand(self, lines: Sequence[str]) -> None:
         """Gives each line to the request that it answers. If it answers none, the program ends, or is none that answers scripts."""

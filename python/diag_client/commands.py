@@ -1,4 +1,4 @@
-"""What the commands `diag-shell`, `diag-picture` and `diag-bench` run, which an installed package has."""
+"""What the commands `diag-shell`, `diag-picture`, `diag-bench` and `diag-boards` run, which an installed package has."""
 
 from __future__ import annotations
 
@@ -25,3 +25,8 @@ def picture() -> int:
 def bench() -> int:
     """`python3 -m diag_client bench`."""
     return _run("bench")
+
+
+def boards() -> int:
+    """`python3 -m diag_client boards`."""
+    return _run("boards")

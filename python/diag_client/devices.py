@@ -81,6 +81,16 @@ class Part:
 
 
 @dataclasses.dataclass
+class Type:
+    """What parts of a type allow: rows of bits, one for each port, if they are ok and if they are faulty; and what a failure costs."""
+
+    ok: list[str] = dataclasses.field(default_factory=list)
+    # If there are none, a faulty part allows every row.
+    bad: list[str] = dataclasses.field(default_factory=list)
+    cost: int = 1
+
+
+@dataclasses.dataclass
 class Device:
     """Parts over wires, both in name order. `blocks` has the kind of each instance of a block, by its path; a netlist has none."""
 
@@ -90,6 +100,11 @@ class Device:
     outputs: frozenset[str] = frozenset()
     blocks: dict[str, str] = dataclasses.field(default_factory=dict)
     ports: dict[str, tuple[str, ...]] = dataclasses.field(default_factory=dict)
+    types: dict[str, Type] = dataclasses.field(default_factory=dict)
+
+    def cost(self, part: Part) -> int:
+        """What a failure of a part costs."""
+        return self.types[part.kind].cost if part.kind in self.types else 1
 
 
 def read_device(path: str | os.PathLike[str]) -> Device:
@@ -135,18 +150,25 @@ def read_design(text: str) -> Device:
     """The flat device of a design."""
     ports_of: dict[str, tuple[str, ...]] = {}
     blocks: dict[str, _Block] = {}
-    block = _Block([], [], [])
+    block, kind = _Block([], [], []), Type()
     device = Device([], [])
     for line in text.split("\n"):
         match re.findall(r"[^ \t\r]+", line.split("#")[0]):
             case ["type", name, *ports]:
                 ports_of[name] = tuple(ports)
+                kind = device.types[name] = Type()
+            case ["ok", row]:
+                kind.ok.append(row)
+            case ["bad", row]:
+                kind.bad.append(row)
+            case ["cost", number]:
+                kind.cost = int(number)
             case ["block", name, *ports]:
                 block = blocks[name] = _Block(ports, [], [])
             case ["wire", *wires]:
                 block.wires += wires
-            case ["part", name, kind, *arguments]:
-                block.parts.append((name, kind, arguments))
+            case ["part", name, of, *arguments]:
+                block.parts.append((name, of, arguments))
             case ["top", name]:
                 top = blocks[name]
                 device.wires += top.ports
@@ -204,6 +226,34 @@ def other_names(path: str | os.PathLike[str], frames: int | None = None) -> dict
     return dict(pairs) | {f"{other}@{time:04}": f"{name}@{time:04}" for other, name in pairs for time in times}
 
 
+def at_time(name: str, time: int) -> str:
+    """A wire at a time, which is counted from 1."""
+    return f"{name}@{time:04}"
+
+
+def copies(device: Device, frames: int | None) -> list[Part]:
+    """The parts of a device, or over several times a copy of each at each time, which has its part's name.
+
+    A flip-flop puts out what its input was at the time before, and at the first time anything.
+    """
+    if frames is None:
+        return device.parts
+    found = []
+    for time in range(1, frames + 1):
+        for part in device.parts:
+            *reads, output = part.wires
+            if part.kind != FLIP_FLOP:
+                found.append(Part(part.name, part.kind, tuple(at_time(wire, time) for wire in part.wires)))
+            elif time > 1:
+                found.append(Part(part.name, "BUFF", (at_time(reads[0], time - 1), at_time(output, time))))
+    return found
+
+
+def wires_of(device: Device, frames: int | None) -> list[str]:
+    """The wires of a device, over several times each at each time, in name order."""
+    return device.wires if frames is None else sorted(at_time(wire, time) for wire in device.wires for time in range(1, frames + 1))
+
+
 def input_wires(path: str | os.PathLike[str], frames: int | None = None) -> frozenset[str]:
     """The names of the wires that nothing in the device drives.
 
@@ -214,5 +264,5 @@ def input_wires(path: str | os.PathLike[str], frames: int | None = None) -> froz
     if frames is None:
         return device.inputs or frozenset(device.wires) - {part.wires[-1] for part in device.parts}
     held = {part.name for part in device.parts if part.kind == FLIP_FLOP}
-    at_times = {f"{wire}@{time:04}" for wire in device.inputs for time in range(1, frames + 1)}
-    return frozenset(at_times | {f"{wire}@0001" for wire in held})
+    at_times = {at_time(wire, time) for wire in device.inputs for time in range(1, frames + 1)}
+    return frozenset(at_times | {at_time(wire, 1) for wire in held})

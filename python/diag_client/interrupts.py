@@ -12,7 +12,7 @@ import types
 
 # The exit status of a command that was interrupted.
 STATUS = 130
-COMMANDS = ("diag-bench", "diag-netlist", "diag-picture", "diag-shell")
+COMMANDS = ("diag-bench", "diag-boards", "diag-netlist", "diag-picture", "diag-shell")
 
 
 def _is_command() -> bool:

@@ -141,6 +141,8 @@ class Request:
     """One line of a script, and its reply as it comes."""
 
     is_answered = False
+    # Whether it takes whole lines as one text, which is faster if there are many.
+    takes_text = False
 
     def __init__(self, session: str, line: str) -> None:
         self.session = session
@@ -167,6 +169,10 @@ class Request:
             self.is_answered = self.take(lines[place])
             place += 1
         return place
+
+    def take_text(self, text: str) -> str:
+        """Takes what a text of whole lines has of the reply, and gives the rest of it."""
+        raise NotImplementedError
 
     def refusal(self, line: str) -> re.Match[str] | None:
         """What a line says if it is a refusal: the session's own reply, or that to a line that names none."""

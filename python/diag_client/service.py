@@ -345,6 +345,15 @@ class Service:
         """The same, and waits for nothing."""
         self._child.send(requests)
 
+    def wait_for(self, request: Request) -> None:
+        """Waits for the reply to something that was sent."""
+        self._child.wait_for(request)
+
+    def limit(self, timeout: float | None) -> None:
+        """From now on a call may wait so many seconds for its answer."""
+        self._timeout = timeout
+        self._child.limit(timeout)
+
     def catch_up(self) -> None:
         """Waits for what an interrupt left to be answered, so that each session knows what the program knows of it."""
         self._child.catch_up()

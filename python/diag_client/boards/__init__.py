@@ -1,1 +1,1 @@
-"""Many test patterns of one board: tables of them, and what explains all of them."""
+"""Many test patterns of one board, and the readings of many boards: tables of them, and what explains them."""

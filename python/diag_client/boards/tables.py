@@ -21,6 +21,7 @@ MARK = "\N{BYTE ORDER MARK}"
 UTF_16 = (codecs.BOM_UTF16_LE, codecs.BOM_UTF16_BE)
 # The begin of a workbook (.xlsx, .ods).
 ZIP = b"PK\x03\x04"
+COMMENT = "#"
 # A first line by which a spreadsheet learns what parts the cells.
 SEPARATOR = re.compile("sep=(.)", re.IGNORECASE)
 
@@ -60,17 +61,22 @@ def cells_of(table: str, text: str, names: Mapping[str, str]) -> list[list[str]]
     told = SEPARATOR.fullmatch(lines[0].strip(" "))
     if told:
         lines[0] = ""
-    header = next((line.strip() for line in lines if line.strip() and not line.startswith("#")), "")
-    sign = told[1] if told else next((sign for sign in ",;\t" if sign in header and header not in names), "")
+    header = next((line.strip() for line in lines if line.strip() and not line.startswith(COMMENT)), "")
+    sign = told[1] if told else "," if header in names else sign_in(header)
     # A line stays where it is, so that a row has the number of its line.
-    lines = ["" if line.startswith("#") else line for line in lines]
-    if not sign and " " in header:
+    lines = ["" if line.startswith(COMMENT) else line for line in lines]
+    if sign == " ":
         return [line.split() for line in lines]
     try:
-        rows = csv.reader(io.StringIO("\n".join(lines), newline=""), delimiter=sign or ",", strict=True)
+        rows = csv.reader(io.StringIO("\n".join(lines), newline=""), delimiter=sign, strict=True)
         return [[cell.strip() for cell in row] for row in rows]
     except csv.Error as error:
         raise BadTable(f"{table}: not comma-separated values: {error}") from None
+
+
+def sign_in(header: str) -> str:
+    """What parts the cells of a first row."""
+    return next((sign for sign in ",;\t " if sign in header), ",")
 
 
 def rows_of(table: str, cells: Sequence[Sequence[str]], names: Mapping[str, str]) -> list[tuple[str, dict[str, int]]]:

@@ -13,6 +13,7 @@ from .. import interrupts
 from ..devices import MADE, MADE_BY, NAMES, PINS, is_made_here, read_design, title_of
 from ..errors import DiagError, sentence
 from ..files import drop_unwritten, open_streams, write_whole
+from . import weighted
 from .board import Board, read_board
 from .board_design import Design
 from .board_netlist import Gates
@@ -304,6 +305,8 @@ def main(words: Sequence[str] | None = None) -> int:
     parser.add_argument("--strict", action="store_true", help="refuse a board with something that is not understood")
     open_streams()
     try:
+        if weighted.is_asked(words):
+            return weighted.main(words)
         try:
             given = parser.parse_args(words)
         finally:

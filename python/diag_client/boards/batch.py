@@ -9,7 +9,7 @@ from collections.abc import Iterable, Iterator, Mapping
 from concurrent.futures import CancelledError, Future
 from typing import Any, Protocol
 
-from ..service import find_program
+from ..program import find_program
 from .answering import Wanted
 from .cluster import Cluster
 from .results import Result, failed

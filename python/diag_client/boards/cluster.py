@@ -12,7 +12,7 @@ from concurrent.futures import Future
 from typing import Any
 
 from ..errors import sentence
-from ..service import find_program
+from ..program import find_program
 from . import workers
 from .workers import Batch, Device, UnusableCluster
 

@@ -9,7 +9,8 @@ import time
 
 from .. import interrupts
 from ..errors import DiagError, sentence
-from ..progress import as_options, options_in
+from ..hints import as_options
+from ..progress import options_in
 from .batch import Answering, make_pool, wanted_of
 from .cross_check import CrossCheck
 from .resume import STANDARD_OUTPUT, ResultsFile, UnusableResults

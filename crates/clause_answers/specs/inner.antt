@@ -1,0 +1,2 @@
+-- What only the private contracts of this crate cite.
+pub mod Asking

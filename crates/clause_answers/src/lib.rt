@@ -1,0 +1,6 @@
+//! Answers about the health of parts, by a search over clauses.
+#![tactic(auto)]
+
+mod oracle;
+
+pub use std::alloc::AllocError as Memory;

@@ -1,2 +1,3 @@
 -- What only the private contracts of this crate cite.
 pub mod Asking
+pub mod Listed

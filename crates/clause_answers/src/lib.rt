@@ -2,5 +2,8 @@
 #![tactic(auto)]
 
 mod oracle;
+mod literals;
+
+mod finding;
 
 pub use std::alloc::AllocError as Memory;

@@ -5,8 +5,32 @@ ghost use Rattle.conditioner.specs.Models.{total_cost};
 ghost use Rattle.clause_search.specs.Searching.{are_within};
 ghost use Rattle.clause_answers.specs.inner.Asking.{Asked, Fits, cost_of, IsMinimum, IsFound, NoneFound};
 
+use crate::Memory;
+use clause_encoder::Cnf;
+use clause_search::Search;
+use minimiser::TOTAL_LIMIT;
+use std::alloc::Global;
+use std::marker::Model;
+
 /// A search for bits of all variables that agree with evidence, make all clauses true, and cost little. Only `new` takes memory.
+#[derive(Drop)]
 pub(crate) struct Oracle {
+    search: Search,
+    costs: Vec<u32>,
+    evidence: Vec<u32>,
+    bits: Vec<bool>,
+    low: u32,
+    high: u32,
+}
+
+impl Model for Oracle {
+    ghost use Rattle.clause_answers.specs.inner.Asking.{Asked};
+
+    ghost Value = { Asked };
+
+    ghost view = { λ o. record { question = record { cnf = o.search.rules.cnf; costs = o.costs.items; evidence = o.evidence.items }; low = o.low; high = o.high; bits = o.bits.items } };
+
+    ghost invariant = { λ _. ⊥ };
 }
 
 impl Oracle {
@@ -15,6 +39,7 @@ impl Oracle {
         requires parts { length costs.now ≤ cnf.now.vars }
         requires total { total_cost costs.now < TOTAL_LIMIT }
         ensures { IfOk result (λ oracle. oracle.question ≡ record { cnf = cnf.now; costs = costs.now; evidence = replicate cnf.now.vars 0 }) }
+    { let _ = cnf; let _ = costs; let _ = alloc; Err(Memory) }
 
     /// Takes up other evidence.
     pub(crate) fn take_up(&mut self, evidence: &[u32])
@@ -23,6 +48,7 @@ impl Oracle {
         ensures question { self.new.question ≡ record self.old.question { evidence = evidence.now } }
         ensures low { self.new.low ≡ self.old.low }
         ensures high { self.new.high ≡ self.old.high }
+    { let _ = self.low; let _ = evidence; }
 
     /// Returns the least cost of bits that fit and make the literals true; these bits are then in `bits`. `None` if there are none.
     ///
@@ -34,10 +60,12 @@ impl Oracle {
         ensures question { self.new.question ≡ self.old.question }
         ensures low { self.new.low ≡ self.old.low }
         ensures high { self.new.high ≡ self.old.high }
+    { let _ = self.low; let _ = literals; None }
 
     /// Sets the range of costs of `ask`.
     pub(crate) fn seek(&mut self, low: u32, high: u32)
         ensures { self.new ≡ record self.old { low = low; high = high } }
+    { self.low = low; self.high = high; }
 
     /// Whether there are bits that fit, make the literals true and have a cost in the range. If so, they are then in `bits`.
     pub(crate) fn ask(&mut self, literals: &[i32]) -> bool
@@ -45,20 +73,24 @@ impl Oracle {
         requires few { length literals.now ≤ self.old.question.cnf.vars }
         ensures found { result ≡ true → IsFound self.new literals.now }
         ensures none { result ≡ false → NoneFound self.old literals.now }
+        ensures kept { result ≡ false → self.new.bits ≡ self.old.bits }
         ensures question { self.new.question ≡ self.old.question }
         ensures low { self.new.low ≡ self.old.low }
         ensures high { self.new.high ≡ self.old.high }
+    { let _ = literals; self.low == 0 }
 
     /// The bits that were found last, variable 1 first.
     pub(crate) fn bits(&self) -> &[bool]
         ensures value { result.now ≡ self.now.bits }
         ensures long { length self.now.bits ≡ self.now.question.cnf.vars }
+    { self.bits.as_slice() }
 
     /// The costs of the parts.
     pub(crate) fn costs(&self) -> &[u32]
         ensures value { result.now ≡ self.now.question.costs }
         ensures parts { length self.now.question.costs ≤ self.now.question.cnf.vars }
         ensures total { total_cost self.now.question.costs < TOTAL_LIMIT }
+    { self.costs.as_slice() }
 
     /// What is known of each variable.
     pub(crate) fn evidence(&self) -> &[u32]
@@ -66,9 +98,12 @@ impl Oracle {
         ensures long { length self.now.question.evidence ≡ self.now.question.cnf.vars }
         ensures words { All (λ w. w < 3) self.now.question.evidence }
         ensures valid { is_clause_list self.now.question.cnf ≡ true }
+    { self.evidence.as_slice() }
 
     /// Whether it is known that a part is ok in all bits that fit and cost at most the end of the range.
     pub(crate) fn is_settled(&self, part: u32) -> bool
         requires { part < length self.now.question.costs }
         ensures { result ≡ true → (bits : List Bool) → Fits self.now.question bits → cost_of self.now.question bits ≤ self.now.high → bit_in bits part ≡ true }
+    { self.low == part }
+
 }

@@ -1,3 +1,4 @@
 pub mod States
 pub mod Prefix
 pub mod Completing
+pub mod Lists

@@ -83,7 +83,7 @@ fn fix(oracle: &mut Oracle, oks: &[bool], literals: &mut [i32], place: usize) ->
         put(literals, place, false);
         return false;
     }
-    if oks[place] || oracle.is_settled(place as u32) {
+    if oks[place] || oracle.is_ok(place as u32) {
         put(literals, place, true);
         return false;
     }

@@ -85,6 +85,11 @@ impl Oracle {
         ensures long { length self.now.bits ≡ self.now.question.cnf.vars }
     { self.bits.as_slice() }
 
+    /// The cost of the state in these bits.
+    pub(crate) fn cost(&self) -> u32
+        ensures { result ≡ cost_of self.now.question self.now.bits }
+    { self.low }
+
     /// The costs of the parts.
     pub(crate) fn costs(&self) -> &[u32]
         ensures value { result.now ≡ self.now.question.costs }
@@ -101,7 +106,7 @@ impl Oracle {
     { self.evidence.as_slice() }
 
     /// Whether it is known that a part is ok in all bits that fit and cost at most the end of the range.
-    pub(crate) fn is_settled(&self, part: u32) -> bool
+    pub(crate) fn is_ok(&self, part: u32) -> bool
         requires { part < length self.now.question.costs }
         ensures { result ≡ true → (bits : List Bool) → Fits self.now.question bits → cost_of self.now.question bits ≤ self.now.high → bit_in bits part ≡ true }
     { self.low == part }

@@ -1,6 +1,4 @@
 pub mod Clauses
-pub mod Definitions
-pub mod CostSums
-pub mod Rules
-pub mod Relaxed
-pub mod States
+pub mod Defined
+pub mod Extended
+pub mod Exhausted

@@ -1,3 +1,2 @@
 pub mod Searching
-pub mod Listing
 pub mod inner

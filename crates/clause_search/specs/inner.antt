@@ -1,4 +1,4 @@
 -- What only the private contracts of this crate cite.
 pub mod Marks
 pub mod Facts
-pub mod Prefix
+pub mod Defined

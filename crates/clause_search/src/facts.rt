@@ -1,37 +1,27 @@
-ghost use Rattle.std.specs.Prelude.{◌≡◌, true, Bool, IfSome};
+ghost use Rattle.std.specs.Prelude.{◌≡◌, true, IfSome};
 ghost use Rattle.state_rules.specs.Assignments.{Assignment};
 ghost use Rattle.clause_encoder.specs.Clauses.{is_true_clause, all_hold};
 ghost use Rattle.clause_search.specs.inner.Marks.{Agrees};
-ghost use Rattle.clause_search.specs.inner.Facts.{is_tied, AreTrue, Contradict};
+ghost use Rattle.clause_search.specs.inner.Facts.{AreTrue};
 
 use crate::marks::{Left, left_of, mark_true};
 use flat_lists::FlatLists;
 
-/// The place of a clause: among the given ones, those that follow from them, or those that follow with the bound.
+/// The place of a clause: among the given ones, or among those that were learned.
 #[derive(Debug, Clone, Copy)]
 pub(crate) enum Fact {
     Given(u32),
-    Free(u32),
-    Tied(u32),
+    Learned(u32),
 }
 
-/// The given clauses, those that follow from them, and those that follow with the bound.
+/// The given clauses, and those that were learned.
 #[derive(Drop)]
 pub(crate) struct Facts {
     pub(crate) given: FlatLists<i32>,
-    pub(crate) free: FlatLists<i32>,
-    pub(crate) tied: FlatLists<i32>,
+    pub(crate) learned: FlatLists<i32>,
 }
 
-/// How clauses contradict marks.
-#[derive(Clone, Copy)]
-pub(crate) enum Refuted {
-    No,
-    Freely,
-    WithBound,
-}
-
-// A clause at a place, if there is one.
+// The clause at a place, if there is one.
 fn clause_at(clauses: &FlatLists<i32>, at: u32) -> Option<&[i32]>
     ensures { IfSome result (λ clause. (a : Assignment) → all_hold a clauses.now ≡ true → is_true_clause a clause.now ≡ true) }
 {
@@ -44,42 +34,28 @@ fn clause_at(clauses: &FlatLists<i32>, at: u32) -> Option<&[i32]>
 
 impl Facts {
     fn clause(&self, fact: Fact) -> Option<&[i32]>
-        ensures { IfSome result (λ clause. (a : Assignment) → AreTrue a self.now (is_tied fact) → is_true_clause a clause.now ≡ true) }
+        ensures { IfSome result (λ clause. (a : Assignment) → AreTrue a self.now → is_true_clause a clause.now ≡ true) }
     {
         match fact {
             Fact::Given(at) => clause_at(&self.given, at),
-            Fact::Free(at) => clause_at(&self.free, at),
-            Fact::Tied(at) => clause_at(&self.tied, at),
+            Fact::Learned(at) => clause_at(&self.learned, at),
         }
     }
 }
 
-/// Whether a clause may follow from the bound.
-pub(crate) fn is_tied(fact: Fact) -> bool
-    ensures { result ≡ is_tied fact }
+/// Whether clauses contradict marks: each of them forces a literal, which is marked, and the last one is the contradiction.
+pub(crate) fn refute(marks: &mut [u8], facts: &Facts, from: &[Fact]) -> bool
+    ensures { result ≡ true → (a : Assignment) → AreTrue a facts.now → Agrees a marks.old → ⊥ }
 {
-    match fact {
-        Fact::Tied(_) => true,
-        _ => false,
-    }
-}
-
-/// How clauses contradict marks, in the order in which each forces a literal or is the contradiction. Adds the marks that they force.
-pub(crate) fn refute(marks: &mut [u8], facts: &Facts, from: &[Fact]) -> Refuted
-    ensures { Contradict facts.now marks.old result }
-{
-    let mut tied = false;
     for fact in from {
-        tied = tied || is_tied(*fact);
         let Some(clause) = facts.clause(*fact) else {
-            return Refuted::No;
+            return false;
         };
         match left_of(marks, clause) {
-            Left::Nothing if tied => return Refuted::WithBound,
-            Left::Nothing => return Refuted::Freely,
+            Left::Nothing => return true,
             Left::One(literal) => mark_true(marks, literal),
             Left::More => {}
         }
     }
-    Refuted::No
+    false
 }

@@ -1,35 +1,40 @@
-ghost use Rattle.std.specs.Prelude.{◌≡◌, ◌+◌, ◌≤◌, ◌++◌, [], ◌∷◌, true, false, IfOk, IfSome, OnSome, IsNone, length, replicate, nat_le};
-ghost use Rattle.std.specs.List.{list_all, list_any};
+ghost use Rattle.std.specs.Prelude.{◌≡◌, ◌+◌, ◌≤◌, ◌<◌, ◌++◌, ◌^◌, [], ◌∷◌, true, false, IfOk, IfSome, OnSome, IsNone, length, take, slice_index_or};
+ghost use Rattle.std.specs.List.{list_all};
 ghost use Rattle.state_rules.specs.Assignments.{Assignment, assignment};
-ghost use Rattle.clause_encoder.specs.Clauses.{is_positive, is_true_clause, all_hold};
-ghost use Rattle.clause_search.specs.Searching.{Rules, holds, all_true, cost_from, respects, keeps};
+ghost use Rattle.clause_encoder.specs.Clauses.{is_true_clause, all_hold, is_clause_list};
+ghost use Rattle.clause_search.specs.Searching.{Rules, all_true, respects, keeps, all_vars, first_rules, Refutes, is_within, are_ordered};
 ghost use Rattle.clause_search.specs.inner.Facts.{IsAdded};
-ghost use Rattle.clause_search.specs.inner.Marks.{is_marked, Agrees};
+ghost use Rattle.clause_search.specs.inner.Marks.{Agrees};
 
 use crate::Memory;
-use crate::bounds::{add_definition, contradicts, respects};
-use crate::facts::{Fact, Facts, Refuted, refute};
+use crate::definitions::{Definitions, contradicts};
+use crate::facts::{Fact, Facts, refute};
+use crate::literals::all_hold;
 use crate::marks::{is_marked, mark_false, mark_true, variable_of};
+use crate::weighted::Weighted;
 use clause_encoder::Cnf;
 use flat_lists::FlatLists;
 use std::alloc::Global;
 use std::marker::Model;
 use std::mem;
 
-// The most literals that a clause is expected to have, all in all.
-const LITERALS: usize = 32;
+/// How much memory a search takes besides that of its clauses: for so many clauses that are learned, with so many literals in all, and for so
+/// many definitions, with so many members in all.
+#[derive(Debug, Clone, Copy)]
+pub(crate) struct Room {
+    pub(crate) clauses: usize,
+    pub(crate) literals: usize,
+    pub(crate) definitions: usize,
+    pub(crate) members: usize,
+}
 
-/// The clauses that are proved: the given ones, and those that follow.
+/// The clauses and definitions that are given, and the clauses that follow from them. What it takes in, it checks.
 #[derive(Drop)]
 pub(crate) struct Kernel {
     vars: u32,
     facts: Facts,
     spare: FlatLists<i32>,
-    costs: Vec<u32>,
-    most: u64,
-    // the literals that each defined variable counts, and how many of them may be false
-    members: FlatLists<i32>,
-    limits: Vec<u32>,
+    definitions: Definitions,
     marks: Vec<u8>,
 }
 
@@ -39,9 +44,9 @@ impl Model for Kernel {
 
     ghost Value = { Rules };
 
-    ghost view = { λ k. record { cnf = record { vars = k.vars; clauses = k.facts.given }; costs = k.costs.items; most = k.most; members = k.members; limits = k.limits.items } };
+    ghost view = { λ k. record { cnf = record { vars = k.vars; clauses = k.facts.given }; members = k.definitions.members; limits = k.definitions.limits } };
 
-    ghost invariant = { λ k. Follow (record { cnf = record { vars = k.vars; clauses = k.facts.given }; costs = k.costs.items; most = k.most; members = k.members; limits = k.limits.items }) k.facts };
+    ghost invariant = { λ k. Follow (record { cnf = record { vars = k.vars; clauses = k.facts.given }; members = k.definitions.members; limits = k.definitions.limits }) k.facts };
 }
 
 // A copy of clauses.
@@ -56,253 +61,178 @@ fn copied(alloc: Global, cnf: &Cnf) -> Result<FlatLists<i32>, Memory>
 }
 
 impl Kernel {
-    /// Makes a kernel with memory for `room` clauses that follow, as many that follow with the bound or the definitions, and `bounds` definitions
-    /// with so many members together.
-    pub(crate) fn new(
-        alloc: Global,
-        cnf: &Cnf,
-        room: usize,
-        bounds: usize,
-        members: usize,
-    ) -> Result<Kernel, Memory>
-        ensures { IfOk result (λ kernel. kernel ≡ record { cnf = cnf.now; costs = replicate cnf.now.vars 0; most = 0; members = []; limits = [] }) }
+    pub(crate) fn new(alloc: Global, cnf: &Cnf, costs: &[u32], room: Room) -> Result<Kernel, Memory>
+        requires { length costs.now ≤ cnf.now.vars }
+        ensures { IfOk result (λ kernel. kernel ≡ first_rules cnf.now costs.now) }
     {
-        let literals = room.saturating_mul(LITERALS);
         let vars = cnf.vars();
         let facts = Facts {
             given: copied(alloc, cnf)?,
-            free: FlatLists::with_room(alloc, room, literals)?,
-            tied: FlatLists::with_room(alloc, room, literals)?,
+            learned: FlatLists::with_room(alloc, room.clauses, room.literals)?,
         };
-        let spare = FlatLists::with_room(alloc, room, literals)?;
-        let costs = vec![in alloc; 0u32; vars as usize]?;
-        let members = FlatLists::with_room(alloc, bounds, members)?;
-        let limits = Vec::with_capacity(alloc, bounds)?;
-        let marks = vec![in alloc; 0u8; (vars as usize + 1).saturating_add(bounds)]?;
+        let spare = FlatLists::with_room(alloc, room.clauses, room.literals)?;
+        let definitions = Definitions::new(alloc, costs, room.definitions, room.members)?;
+        let marks = vec![in alloc; 0u8; (vars as usize + 3).saturating_add(room.definitions)]?;
         Ok(Kernel {
             vars,
             facts,
             spare,
-            costs,
-            most: 0,
-            members,
-            limits,
+            definitions,
             marks,
         })
     }
 
-    /// Adds a clause if it follows from others by marks alone: they are in the order in which each forces a literal, and the last one is
-    /// the contradiction.
+    /// Returns the number of definitions.
+    pub(crate) fn definitions(&self) -> usize
+        ensures many { result ≡ length self.now.members }
+        ensures valid { is_clause_list self.now.cnf ≡ true }
+        ensures even { length self.now.limits ≡ length self.now.members }
+        ensures ordered { are_ordered (self.now.cnf.vars + 1) self.now.members ≡ true }
+    {
+        self.definitions.len()
+    }
+
+    /// Returns the members of a definition.
+    pub(crate) fn members(&self, place: usize) -> &[Weighted]
+        requires { place < length self.now.members }
+        ensures { result.now ≡ slice_index_or self.now.members place [] }
+    {
+        self.definitions.members(place)
+    }
+
+    /// Returns the limit of a definition.
+    pub(crate) fn limit(&self, place: usize) -> u32
+        requires { place < length self.now.members }
+        ensures { result ≡ slice_index_or self.now.limits place 0 }
+    {
+        self.definitions.limit(place)
+    }
+
+    /// Adds a clause if it follows from others: with its literals false, each of these in turn forces a literal, and the last one is false.
     pub(crate) fn accept(&mut self, clause: &[i32], from: &[Fact]) -> Option<Fact>
         ensures { self.new ≡ self.old }
     {
         open_marks(&mut self.marks);
         falsify(&mut self.marks, clause);
-        match refute(&mut self.marks, &self.facts, from) {
-            Refuted::No => None,
-            Refuted::Freely => Some(Fact::Free(add(&mut self.facts.free, clause)?)),
-            Refuted::WithBound => Some(Fact::Tied(add(&mut self.facts.tied, clause)?)),
-        }
-    }
-
-    /// Adds a clause if it follows from the bound alone: its literals are variables in rising order that cost too much together.
-    pub(crate) fn accept_cost(&mut self, clause: &[i32]) -> Option<Fact>
-        ensures { self.new ≡ self.old }
-    {
-        if !exceeds(&self.costs, self.most, clause) {
+        if !refute(&mut self.marks, &self.facts, from) {
             return None;
         }
-        Some(Fact::Tied(add(&mut self.facts.tied, clause)?))
+        Some(Fact::Learned(add(&mut self.facts.learned, clause)?))
     }
 
-    /// Adds a clause if it follows from a definition alone: with all its literals false, the defined variable is true and more of its members are
-    /// false than may be, or it is false and no more of them can be false than may be.
-    pub(crate) fn accept_bound(&mut self, bound: u32, clause: &[i32]) -> Option<Fact>
+    /// Adds a clause if it follows from a definition: with its literals false, the defined variable is true and its false members weigh too
+    /// much, or it is false and they cannot.
+    pub(crate) fn accept_bound(&mut self, place: u32, clause: &[i32]) -> Option<Fact>
         ensures { self.new ≡ self.old }
     {
-        if !is_defined(
-            &mut self.marks,
-            self.vars,
-            &self.members,
-            self.limits.as_slice(),
-            bound,
-            clause,
-        ) {
+        if !is_defined(&mut self.marks, self.vars, &self.definitions, place, clause) {
             return None;
         }
-        Some(Fact::Tied(add(&mut self.facts.tied, clause)?))
+        Some(Fact::Learned(add(&mut self.facts.learned, clause)?))
     }
 
-    /// Defines one more variable: it is true exactly if at most `limit` of the members are false. Returns its place among the defined ones.
-    pub(crate) fn define(&mut self, members: &[i32], limit: u32) -> Option<u32>
+    /// Returns the variable that would be defined next.
+    pub(crate) fn next_variable(&self) -> Option<u32>
+        ensures { IfSome result (λ v. v ≡ all_vars self.now + 1) }
+    {
+        let count = u32::try_from(self.definitions.len()).ok()?;
+        self.vars.checked_add(count)?.checked_add(1)
+    }
+
+    /// Defines one more variable. Returns none if there is no memory for it, or if a member has no variable before it.
+    pub(crate) fn define(&mut self, members: &[Weighted], limit: u32) -> Option<u32>
         ensures some { OnSome result (self.new ≡ record self.old { members = self.old.members ++ members.now ∷ []; limits = self.old.limits ++ limit ∷ [] }) }
-        ensures place { IfSome result (λ at. at ≡ length self.old.members) }
+        ensures variable { IfSome result (λ v. v ≡ all_vars self.old + 1) }
         ensures none { IsNone result → self.new ≡ self.old }
     {
-        add_definition(&mut self.members, &mut self.limits, members, limit)
+        let variable = self.next_variable()?;
+        if are_within(variable - 1, members) && self.definitions.define(members, limit) {
+            Some(variable)
+        } else {
+            None
+        }
     }
 
-    /// Removes all definitions, and the clauses that follow from them or the bound.
-    pub(crate) fn forget(&mut self)
-        ensures { self.new ≡ record self.old { members = []; limits = [] } }
+    /// Removes what was learned, and all definitions except the first two, which get these limits.
+    #[tactic(auto, using(crate::proofs::Defined::ordered_take))]
+    pub(crate) fn restart(&mut self, most: u32, less: u32)
+        ensures { self.new ≡ record self.old { members = take 2 self.old.members; limits = most ∷ less ∷ [] } }
     {
-        clear_tied(&mut self.facts);
-        self.members.clear();
-        self.limits.clear();
+        self.facts.learned.clear();
+        self.definitions.restart(most, less);
+    }
+
+    /// Gives the defined variables their bits.
+    pub(crate) fn put_bits(&self, bits: &mut [bool]) {
+        self.definitions.put_bits(bits, self.vars);
     }
 
     /// Whether bits keep the rules.
     pub(crate) fn is_model(&self, bits: &[bool]) -> bool
         ensures { result ≡ keeps self.now (assignment bits.now) }
     {
-        all_hold(bits, &self.facts.given)
-            && is_within(bits, &self.costs, self.most)
-            && respects(bits, self.vars, &self.members, self.limits.as_slice())
+        all_hold(bits, &self.facts.given) && self.definitions.respects(bits, self.vars)
     }
 
-    /// Whether clauses show by marks alone that literals are not all true: they are in the order in which each forces a literal, and the last
-    /// one is the contradiction.
+    /// Whether clauses show that literals are not all true: with them true, each clause in turn forces a literal, and the last one is false.
     pub(crate) fn is_core(&mut self, core: &[i32], from: &[Fact]) -> bool
         ensures rules { self.new ≡ self.old }
-        ensures sound { result ≡ true → (a : Assignment) → keeps self.old a ≡ true → all_true a core.now ≡ false }
+        ensures sound { result ≡ true → Refutes self.old core.now }
     {
         open_marks(&mut self.marks);
-        if !assume(&mut self.marks, core) {
-            return true;
-        }
-        match refute(&mut self.marks, &self.facts, from) {
-            Refuted::No => false,
-            _ => true,
-        }
+        !assume(&mut self.marks, core) || refute(&mut self.marks, &self.facts, from)
     }
 
-    /// Removes clauses that follow, except those that are kept.
-    pub(crate) fn retain(&mut self, free: &[bool], tied: &[bool])
+    /// Removes learned clauses, except those that are kept.
+    pub(crate) fn retain(&mut self, kept: &[bool])
         ensures { self.new ≡ self.old }
     {
-        copy_some(&mut self.spare, &self.facts.free, free);
-        mem::swap(&mut self.spare, &mut self.facts.free);
-        copy_some(&mut self.spare, &self.facts.tied, tied);
-        mem::swap(&mut self.spare, &mut self.facts.tied);
-    }
-
-    /// Sets the bound, and removes the clauses that follow from the one before.
-    pub(crate) fn bound(&mut self, costs: &[u32], most: u64)
-        requires { length costs.now ≡ length self.old.costs }
-        ensures { self.new ≡ record self.old { costs = costs.now; most = most } }
-    {
-        clear_tied(&mut self.facts);
-        self.costs.as_mut_slice().copy_from_slice(costs);
-        self.most = most;
+        copy_some(&mut self.spare, &self.facts.learned, kept);
+        mem::swap(&mut self.spare, &mut self.facts.learned);
     }
 }
 
-// Removes the clauses that follow from the bound or the definitions.
-fn clear_tied(facts: &mut Facts)
-    ensures { facts.new ≡ record facts.old { tied = [] } }
+// Whether all members have variables from 1 to `last`.
+fn are_within(last: u32, members: &[Weighted]) -> bool
+    ensures { result ≡ list_all (λ (w : Weighted). is_within last w.literal) members.now }
 {
-    facts.tied.clear();
-}
-
-// Whether a literal is true.
-pub(crate) fn is_true(bits: &[bool], literal: i32) -> bool
-    ensures { result ≡ holds (assignment bits.now) literal }
-{
-    let place = (variable_of(literal) as usize).saturating_sub(1);
-    let bit = place < bits.len() && bits[place];
-    if literal < 0 { !bit } else { bit }
-}
-
-fn is_true_clause(bits: &[bool], clause: &[i32]) -> bool
-    ensures { result ≡ is_true_clause (assignment bits.now) clause.now }
-{
-    for literal in clause {
-        if is_true(bits, *literal) {
-            return true;
-        }
-    }
-    false
-}
-
-fn all_hold(bits: &[bool], clauses: &FlatLists<i32>) -> bool
-    ensures { result ≡ all_hold (assignment bits.now) clauses.now }
-{
-    for at in 0..clauses.len() {
-        if !is_true_clause(bits, clauses.list(at)) {
+    for member in members {
+        if !is_within(last, member.literal) {
             return false;
         }
     }
     true
 }
 
-// Whether the false variables cost at most `most`.
-pub(crate) fn is_within(bits: &[bool], costs: &[u32], most: u64) -> bool
-    ensures { result ≡ nat_le (cost_from (assignment bits.now) 1 costs.now) most }
+fn is_within(last: u32, literal: i32) -> bool
+    ensures { result ≡ is_within last literal }
 {
-    let mut left = most;
-    for at in 0..costs.len() {
-        let cost = u64::from(costs[at]);
-        if at < bits.len() && bits[at] {
-            continue;
-        }
-        if left < cost {
-            return false;
-        }
-        left -= cost;
-    }
-    true
-}
-
-pub(crate) fn is_positive(literal: i32) -> bool
-    ensures { result ≡ is_positive literal }
-{
-    0 <= literal
-}
-
-// Whether literals are variables in rising order that cost more than `most`.
-fn exceeds(costs: &[u32], most: u64, clause: &[i32]) -> bool
-    ensures { result ≡ true → (a : Assignment) → cost_from a 1 costs.now ≤ most → is_true_clause a clause.now ≡ true }
-{
-    let mut left = most;
-    let mut last = 0usize;
-    for literal in clause {
-        let variable = variable_of(*literal) as usize;
-        if !is_positive(*literal) || variable <= last || costs.len() < variable {
-            return false;
-        }
-        let cost = u64::from(costs[variable - 1]);
-        if left < cost {
-            return true;
-        }
-        left -= cost;
-        last = variable;
-    }
-    false
+    let variable = variable_of(literal);
+    1 <= variable && variable <= last
 }
 
 // Whether a clause follows from a definition.
-#[tactic(auto, using(crate::proofs::Definitions::respects_at))]
+#[tactic(auto, using(crate::proofs::Defined::respects_at))]
 fn is_defined(
     marks: &mut [u8],
     vars: u32,
-    members: &FlatLists<i32>,
-    limits: &[u32],
-    bound: u32,
+    definitions: &Definitions,
+    place: u32,
     clause: &[i32],
 ) -> bool
-    ensures { result ≡ true → (a : Assignment) → respects a (vars + 1) members.now limits.now ≡ true → is_true_clause a clause.now ≡ true }
+    ensures { result ≡ true → (a : Assignment) → respects a (vars + 1) definitions.now.members definitions.now.limits ≡ true → is_true_clause a clause.now ≡ true }
 {
-    let place = bound as usize;
-    if members.len() <= place || limits.len() <= place {
+    let place = place as usize;
+    if definitions.len() <= place {
         return false;
     }
     open_marks(marks);
     falsify(marks, clause);
     contradicts(
         marks,
-        vars as usize + 1 + place,
-        members.list(place),
-        limits[place],
+        (vars as usize + 1).saturating_add(place),
+        definitions.members(place),
+        definitions.limit(place),
     )
 }
 

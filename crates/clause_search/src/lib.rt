@@ -1,22 +1,16 @@
-//! A search for bits that make clauses true and keep a bound. A small kernel checks what it finds.
+//! A search for bits that make clauses true. A small kernel checks what it finds.
 #![tactic(auto)]
 
-mod analysis;
-mod bounds;
-mod costs;
-mod database;
+mod definitions;
+mod exhaustion;
 mod facts;
 mod finder;
 mod kernel;
-mod least;
-mod listing;
+mod literals;
 mod marks;
-mod order;
-mod row;
 mod search;
-mod trail;
-mod watches;
+mod weighted;
 
-pub use least::{Minimum, Room, least_cost};
 pub use search::{Answer, Search};
 pub use std::alloc::AllocError as Memory;
+pub use weighted::Weighted;

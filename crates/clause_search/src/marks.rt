@@ -38,7 +38,7 @@ pub(crate) fn is_marked(marks: &[u8], literal: i32) -> bool
 }
 
 /// The bit that marks give a variable, if they give it one.
-#[tactic(auto, using(crate::proofs::Definitions::marked_false, crate::proofs::Definitions::marked_true))]
+#[tactic(auto, using(crate::proofs::Defined::marked_false, crate::proofs::Defined::marked_true))]
 pub(crate) fn marked_bit(marks: &[u8], variable: usize) -> Option<bool>
     ensures { IfSome result (λ bit. (a : Assignment) → Agrees a marks.now → a variable ≡ bit) }
 {

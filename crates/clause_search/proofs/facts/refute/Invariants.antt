@@ -4,4 +4,4 @@ use Rattle.clause_search.specs.inner.Facts.{AreTrue}
 use Rattle.clause_search.proofs.facts.refute.Given as goal
 
 abbrev pub invariant-loop-fact : goal.invariant-loop-fact
-invariant-loop-fact l = (a : Assignment) → AreTrue a l.facts l.tied → Agrees a l.initial.marks → Agrees a l.marks
+invariant-loop-fact l = (a : Assignment) → AreTrue a l.facts → Agrees a l.initial.marks → Agrees a l.marks

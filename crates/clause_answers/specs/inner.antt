@@ -1,2 +1,4 @@
 -- What only the private contracts of this crate cite.
 pub mod Asking
+pub mod Known
+pub mod Weighing

@@ -1,6 +1,8 @@
 //! Answers about the health of parts, by a search over clauses.
 #![tactic(auto)]
 
-mod oracle;
+mod evidence;
+mod literals;
+mod weights;
 
 pub use std::alloc::AllocError as Memory;

@@ -45,6 +45,7 @@ impl Oracle {
         requires few { length literals.now ≤ self.old.question.cnf.vars }
         ensures found { result ≡ true → IsFound self.new literals.now }
         ensures none { result ≡ false → NoneFound self.old literals.now }
+        ensures kept { result ≡ false → self.new.bits ≡ self.old.bits }
         ensures question { self.new.question ≡ self.old.question }
         ensures low { self.new.low ≡ self.old.low }
         ensures high { self.new.high ≡ self.old.high }
@@ -53,6 +54,10 @@ impl Oracle {
     pub(crate) fn bits(&self) -> &[bool]
         ensures value { result.now ≡ self.now.bits }
         ensures long { length self.now.bits ≡ self.now.question.cnf.vars }
+
+    /// The cost of the state in these bits.
+    pub(crate) fn cost(&self) -> u32
+        ensures { result ≡ cost_of self.now.question self.now.bits }
 
     /// The costs of the parts.
     pub(crate) fn costs(&self) -> &[u32]
@@ -68,7 +73,7 @@ impl Oracle {
         ensures valid { is_clause_list self.now.question.cnf ≡ true }
 
     /// Whether it is known that a part is ok in all bits that fit and cost at most the end of the range.
-    pub(crate) fn is_settled(&self, part: u32) -> bool
+    pub(crate) fn is_ok(&self, part: u32) -> bool
         requires { part < length self.now.question.costs }
         ensures { result ≡ true → (bits : List Bool) → Fits self.now.question bits → cost_of self.now.question bits ≤ self.now.high → bit_in bits part ≡ true }
 }

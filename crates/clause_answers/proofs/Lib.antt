@@ -1,0 +1,2 @@
+pub mod KnownLiterals
+pub mod Spread

@@ -5,6 +5,7 @@ use Rattle.std.proofs.lemmas.List.Folds.{list_all-append}
 use Rattle.std.proofs.Math.Bool.{and-true}
 use Rattle.std.specs.Prelude.{nat_le}
 use Rattle.state_rules.specs.Assignments.{Assignment}
+use Rattle.state_rules.proofs.Lists.{list_all-at}
 use Rattle.state_rules.specs.Cases.{agrees_at}
 use Rattle.clause_encoder.specs.Clauses.{var_of}
 use Rattle.conditioner.specs.Evidence.{known_of}
@@ -25,6 +26,8 @@ within-more n m (l ∷ literals) h e = grind (arith, within-more n m literals h)
 
 pub ruleset added_steps = (all_true-push, within-push, within-more)
 
+pub ruleset weighted_steps = (within-more)
+
 pub read-none : (evidence : List ℕ) → IsRead evidence 0 []
 read-none evidence = record { only = λ a e i h. absurd (omega arith); enough = λ a k. refl; few = omega arith; within = refl }
 
@@ -40,3 +43,7 @@ read-more evidence n old new r all few within = record {
 }
 
 pub ruleset read_steps = (read-none, read-more)
+
+-- each of literals that are all true is true
+pub true_at : (a : Assignment) (literals : List ℤ) (i : ℕ) (d l : ℤ) → all_true a literals ≡ true → i < length literals → l ≡ get_or literals i d → holds a l ≡ true
+true_at a literals i d l e h is = ap (holds a) is ∙ list_all-at (holds a) literals i d e h

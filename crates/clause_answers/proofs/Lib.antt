@@ -1,2 +1,3 @@
 pub mod KnownLiterals
 pub mod Spread
+pub mod Cores

@@ -1,5 +1,5 @@
 -- Sums of weights.
-use Rattle.std.proofs.Common.{◌≡◌, ℕ, zero, suc, ◌+◌, ◌-◌, ◌*◌, ◌<◌, ◌≤◌, true, false, List, [], ◌∷◌, ◌++◌, length, get_or, set, take, ℤ, pos, refl, ap, ◌∙◌, arith}
+use Rattle.std.proofs.Common.{◌≡◌, ℕ, zero, suc, ◌+◌, ◌-◌, ◌*◌, ◌<◌, ◌≤◌, Bool, true, false, if◌then◌else◌, List, [], ◌∷◌, ◌++◌, length, get_or, set, take, ℤ, pos, refl, ap, ◌∙◌, arith}
 use Rattle.std.specs.Prelude.{nat_le}
 use Rattle.std.proofs.lemmas.Bool.Decides.{nat_tests}
 use Rattle.std.proofs.lemmas.List.{length-append}
@@ -73,3 +73,50 @@ grown-more rules new m k even e = record {
 }
 
 pub ruleset grow_steps = (grown-same, grown-more, spread-more)
+
+-- ---- a weight that is lessened
+
+part-at : (a : Assignment) (v i m : ℕ) (weights : List ℕ) → i < length weights → m ≤ get_or weights i 0
+    → false_weight a (priced v (set weights i (get_or weights i 0 - m))) + m * unit_if_false a (pos (v + i)) ≡ false_weight a (priced v weights)
+part-at a v i m [] h e = absurd (omega arith)
+part-at a v zero m (w ∷ weights) h e = let same : v + 0 ≡ v = omega arith in grind arith
+part-at a v (suc i) m (w ∷ weights) h e = let same : v + suc i ≡ (v + 1) + i = omega arith in grind (arith, part-at a (v + 1) i m weights)
+
+pub part-lessened : (a : Assignment) (i m : ℕ) (weights : List ℕ) (l : ℤ) → holds a l ≡ a (i + 1) → i < length weights → m ≤ get_or weights i 0
+    → false_weight a (priced 1 (set weights i (get_or weights i 0 - m))) + m * unit_if_false a l ≡ false_weight a (priced 1 weights)
+part-lessened a i m weights l e h g = let same : 1 + i ≡ i + 1 = omega arith in grind (arith, part-at a 1 i m weights h g)
+
+spread-at : (a : Assignment) (i m : ℕ) (members : List (List Weighted)) (limits weights : List ℕ) → length limits ≡ length members → i < length members → i < length weights → m ≤ get_or weights i 0
+    → spread a members limits (set weights i (get_or weights i 0 - m)) + m * (false_weight a (get_or members i []) - get_or limits i 0) ≡ spread a members limits weights
+spread-at a i m [] limits weights e h k g = absurd (omega arith)
+spread-at a i m (x ∷ members) [] weights e h k g = absurd (omega arith)
+spread-at a i m (x ∷ members) (n ∷ limits) [] e h k g = absurd (omega arith)
+spread-at a zero m (x ∷ members) (n ∷ limits) (w ∷ weights) e h k g = each (false_weight a x - n)
+  where
+    each : (d : ℕ) → (w - m) * d + spread a members limits weights + m * d ≡ w * d + spread a members limits weights
+    each d = let whole : (w - m) + m ≡ w = omega arith in grind (arith, whole)
+spread-at a (suc i) m (x ∷ members) (n ∷ limits) (w ∷ weights) e h k g = omega (arith, spread-at a i m members limits weights (omega arith) (omega arith) (omega arith) g)
+
+respects-at : (a : Assignment) (v i : ℕ) (members : List (List Weighted)) (limits : List ℕ) → respects a v members limits ≡ true → i < length members → i < length limits
+    → same_bit (a (v + i)) (nat_le (false_weight a (get_or members i [])) (get_or limits i 0)) ≡ true
+respects-at a v i [] limits e h k = absurd (omega arith)
+respects-at a v i (m ∷ members) [] e h k = absurd (omega arith)
+respects-at a v zero (m ∷ members) (n ∷ limits) e h k = let same : v + 0 ≡ v = omega arith in grind arith
+respects-at a v (suc i) (m ∷ members) (n ∷ limits) e h k = let same : v + suc i ≡ (v + 1) + i = omega arith in grind (arith, respects-at a (v + 1) i members limits)
+
+-- what is above a limit is what is above the next one, and 1 if it is above
+above : (m n k : ℕ) (b : Bool) → same_bit b (nat_le n k) ≡ true → m * (n - k) ≡ m * (n - (k + 1)) + m * (if b then 0 else 1)
+above m n k true e = let low : n ≤ k = grind (arith, nat_tests) in grind arith
+above m n k false e = let high : k < n = grind (arith, nat_tests) in let whole : n - k ≡ (n - (k + 1)) + 1 = omega arith in rw whole (grind arith)
+
+pub bound-lessened : (a : Assignment) (rules : Rules) (i m : ℕ) (weights : List ℕ) (l : ℤ) → keeps rules a ≡ true → length rules.limits ≡ length rules.members
+    → holds a l ≡ a (rules.cnf.vars + i + 1) → length weights ≤ length rules.members → i < length weights → m ≤ get_or weights i 0
+    → spread a rules.members rules.limits (set weights i (get_or weights i 0 - m)) + m * (false_weight a (get_or rules.members i []) - (get_or rules.limits i 0 + 1)) + m * unit_if_false a l
+    ≡ spread a rules.members rules.limits weights
+bound-lessened a rules i m weights l k even is short h g =
+    let same : (rules.cnf.vars + 1) + i ≡ rules.cnf.vars + i + 1 = omega arith in
+    let r : respects a (rules.cnf.vars + 1) rules.members rules.limits ≡ true = grind arith in
+    let bit = rw same at (respects-at a (rules.cnf.vars + 1) i rules.members rules.limits r (omega arith) (omega arith)) in
+    let both = above m (false_weight a (get_or rules.members i [])) (get_or rules.limits i 0) (a (rules.cnf.vars + i + 1)) bit in
+    let all = spread-at a i m rules.members rules.limits weights even (omega arith) h g in
+    rw is (omega (arith, both, all))

@@ -16,6 +16,10 @@ pub record IsRead (evidence : List ℕ) (n : ℕ) (literals : List ℤ) : Type 0
   pub few : length literals ≤ n
   pub within : are_within n literals ≡ true
 
+-- of the first `n` variables after `before` others, those with a weight are true
+abbrev pub AreTrue : Assignment → ℕ → List ℕ → ℕ → Type 0
+AreTrue a before weights n = (i : ℕ) → i < n → 0 < slice_index weights i → a (before + i + 1) ≡ true
+
 -- There is a word for each variable, and there are literals that say the same. There is room for one for each variable.
 pub record IsEvidence (evidence : List ℕ) (literals : List ℤ) (space : ℕ) : Type 0 where
   pub words : All (λ w. w < 3) evidence

@@ -47,3 +47,12 @@ pub ruleset read_steps = (read-none, read-more)
 -- each of literals that are all true is true
 pub true_at : (a : Assignment) (literals : List ℤ) (i : ℕ) (d l : ℤ) → all_true a literals ≡ true → i < length literals → l ≡ get_or literals i d → holds a l ≡ true
 true_at a literals i d l e h is = ap (holds a) is ∙ list_all-at (holds a) literals i d e h
+
+-- lists of literals one after the other
+pub all_true-append : (a : Assignment) (xs ys : List ℤ) → all_true a (xs ++ ys) ≡ (all_true a xs && all_true a ys)
+all_true-append a xs ys = list_all-append (holds a) xs ys
+
+pub within-append : (n : ℕ) (xs ys : List ℤ) → are_within n (xs ++ ys) ≡ (are_within n xs && are_within n ys)
+within-append n xs ys = list_all-append (is_within n) xs ys
+
+pub ruleset assume_steps = (all_true-append, within-append, within-more)

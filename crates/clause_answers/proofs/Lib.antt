@@ -1,3 +1,4 @@
 pub mod KnownLiterals
 pub mod Spread
-pub mod Cores
+pub mod Collected
+pub mod BitCosts

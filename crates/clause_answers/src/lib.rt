@@ -1,6 +1,8 @@
 //! Answers about the health of parts, by a search over clauses.
 #![tactic(auto)]
 
+mod assumed;
+mod cores;
 mod evidence;
 mod literals;
 mod weights;

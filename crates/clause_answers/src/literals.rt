@@ -47,22 +47,25 @@ pub(crate) fn add_weighted(literals: &mut Vec<i32>, before: usize, weights: &[u3
     ensures capacity { vec_capacity literals.new ≡ vec_capacity literals.old }
 {
     for place in 0..weights.len() {
-        let is_wanted = weights[place] != 0;
-        add_if(literals, before + place, is_wanted, spare);
+        if literals.len() + spare < literals.capacity() {
+            add_if(literals, before + place, true, weights[place] != 0);
+        }
     }
 }
 
+// Adds the literal that a variable has a bit, if it is wanted.
 #[tactic(auto, using(crate::proofs::KnownLiterals::added_steps))]
-fn add_if(literals: &mut Vec<i32>, place: usize, is_wanted: bool, spare: usize)
+pub(crate) fn add_if(literals: &mut Vec<i32>, place: usize, bit: bool, is_wanted: bool)
     requires few { place + 1 < 2 ^ 31 }
-    requires room { length literals.old.items + spare ≤ vec_capacity literals.old }
-    ensures room { length literals.new.items + spare ≤ vec_capacity literals.new }
+    requires room { length literals.old.items < vec_capacity literals.old }
+    ensures len { length literals.new.items ≤ length literals.old.items + 1 }
     ensures only { (a : Assignment) → all_true a literals.new.items ≡ true → all_true a literals.old.items ≡ true }
-    ensures enough { (a : Assignment) → all_true a literals.old.items ≡ true → (is_wanted ≡ true → a (place + 1) ≡ true) → all_true a literals.new.items ≡ true }
+    ensures bit { (a : Assignment) → all_true a literals.new.items ≡ true → is_wanted ≡ true → a (place + 1) ≡ bit }
+    ensures enough { (a : Assignment) → all_true a literals.old.items ≡ true → (is_wanted ≡ true → a (place + 1) ≡ bit) → all_true a literals.new.items ≡ true }
     ensures within { (n : ℕ) → place + 1 ≤ n → are_within n literals.old.items ≡ true → are_within n literals.new.items ≡ true }
     ensures capacity { vec_capacity literals.new ≡ vec_capacity literals.old }
 {
-    if is_wanted && literals.len() + spare < literals.capacity() {
-        literals.push_reserved(literal_of(place, true));
+    if is_wanted {
+        literals.push_reserved(literal_of(place, bit));
     }
 }

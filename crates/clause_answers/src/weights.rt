@@ -218,7 +218,7 @@ pub(crate) fn least_weight(weights: &Weights, evidence: &Evidence, literals: &[i
 }
 
 // Takes an amount from the weight of each literal of a core that is not given, and collects these literals.
-#[tactic(auto, using(crate::proofs::Cores::collect_steps))]
+#[tactic(auto, using(crate::proofs::Collected::collect_steps))]
 fn collect(
     search: &mut Search,
     weights: &mut Weights,
@@ -255,7 +255,7 @@ fn collect(
 
 // Raises what all bits cost at least by an amount, since not all literals of a core are true. How many more of them are false is left to a
 // definition.
-#[tactic(auto, using(crate::proofs::Cores::raise_steps))]
+#[tactic(auto, using(crate::proofs::Collected::raise_steps))]
 pub(crate) fn raise(
     search: &mut Search,
     weights: &mut Weights,

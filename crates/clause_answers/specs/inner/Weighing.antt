@@ -1,6 +1,6 @@
 -- Weights of literals that are assumed, and what they say of the cost.
-use Rattle.std.specs.Prelude.{◌≡◌, ℕ, ◌+◌, ◌-◌, ◌*◌, ◌≤◌, true, if◌then◌else◌, List, [], ◌∷◌, length, take, ℤ}
-use Rattle.state_rules.specs.Assignments.{Assignment}
+use Rattle.std.specs.Prelude.{◌≡◌, ℕ, ◌+◌, ◌-◌, ◌*◌, ◌≤◌, Bool, true, if◌then◌else◌, List, [], ◌∷◌, length, take, ℤ}
+use Rattle.state_rules.specs.Assignments.{Assignment, assignment}
 use Rattle.clause_search.specs.declared.weighted.Weighted.{Weighted}
 use Rattle.clause_search.specs.Searching.{Rules, holds, all_true, false_weight, keeps, priced}
 use Rattle.clause_answers.specs.declared.weights.Weights.{Weights}
@@ -37,3 +37,10 @@ pub record Grown (old new : Rules) : Type 0 where
   pub kept : (a : Assignment) → keeps new a ≡ true → keeps old a ≡ true
   pub spread_ : (a : Assignment) (weights : List ℕ) → length weights ≤ length old.members
       → spread a new.members new.limits weights ≡ spread a old.members old.limits weights
+
+-- Bits for all variables that keep the rules, agree with the evidence and make literals true.
+pub record IsReached (rules : Rules) (evidence : List ℕ) (literals : List ℤ) (bits : List Bool) : Type 0 where
+  pub long : rules.cnf.vars ≤ length bits
+  pub kept : keeps rules (assignment bits) ≡ true
+  pub knows : Knows (assignment bits) evidence (length evidence)
+  pub true_ : all_true (assignment bits) literals ≡ true

@@ -3,7 +3,7 @@ use Rattle.std.proofs.lemmas.Int.{to_z-of_z}
 use Rattle.std.proofs.lemmas.Grind.{common_steps}
 use Rattle.clause_search.specs.Searching.{holds, false_weight}
 use Rattle.clause_answers.specs.inner.Weighing.{unit_if_false}
-use Rattle.clause_answers.proofs.Cores.{weight-push, grown-trans, some-given, some-moved}
+use Rattle.clause_answers.proofs.Collected.{weight-push, grown-trans, some-given, some-moved}
 use Rattle.clause_answers.proofs.weights.collect.Goals as goal
 
 pub loop-literal-preserved-then-is_given : goal.loop-literal-preserved-then-is_given

@@ -97,7 +97,7 @@ spread-at a zero m (x ∷ members) (n ∷ limits) (w ∷ weights) e h k g = each
     each d = let whole : (w - m) + m ≡ w = omega arith in grind (arith, whole)
 spread-at a (suc i) m (x ∷ members) (n ∷ limits) (w ∷ weights) e h k g = omega (arith, spread-at a i m members limits weights (omega arith) (omega arith) (omega arith) g)
 
-respects-at : (a : Assignment) (v i : ℕ) (members : List (List Weighted)) (limits : List ℕ) → respects a v members limits ≡ true → i < length members → i < length limits
+pub respects-at : (a : Assignment) (v i : ℕ) (members : List (List Weighted)) (limits : List ℕ) → respects a v members limits ≡ true → i < length members → i < length limits
     → same_bit (a (v + i)) (nat_le (false_weight a (get_or members i [])) (get_or limits i 0)) ≡ true
 respects-at a v i [] limits e h k = absurd (omega arith)
 respects-at a v i (m ∷ members) [] e h k = absurd (omega arith)

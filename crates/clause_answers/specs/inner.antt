@@ -2,3 +2,4 @@
 pub mod Asking
 pub mod Known
 pub mod Weighing
+pub mod Carrying

@@ -5,6 +5,7 @@ mod assumed;
 mod cores;
 mod evidence;
 mod literals;
+mod oracle;
 mod weights;
 
 pub use std::alloc::AllocError as Memory;

@@ -1,13 +1,15 @@
-ghost use Rattle.std.specs.Prelude.{◌≡◌, ℕ, ◌+◌, ◌-◌, ◌*◌, ◌<◌, ◌≤◌, ℤ, List, true, false, length, slice_index_or, slice_set, vec_len, vec_capacity};
+ghost use Rattle.std.specs.Prelude.{◌≡◌, ℕ, ◌+◌, ◌-◌, ◌*◌, ◌<◌, ◌≤◌, ℤ, List, true, false, IfOk, length, slice_index_or, slice_set, vec_len, vec_capacity};
 ghost use Rattle.state_rules.specs.Assignments.{Assignment};
 ghost use Rattle.clause_search.specs.Searching.{holds, false_weight, keeps, all_true, all_vars};
 ghost use Rattle.clause_search.specs.declared.weighted.Weighted.{Weighted};
 ghost use Rattle.clause_answers.specs.inner.Known.{Knows};
-ghost use Rattle.clause_answers.specs.inner.Weighing.{unit_if_false, spread, weighed, Weighs, Grown};
+ghost use Rattle.clause_answers.specs.inner.Weighing.{unit_if_false, spread, weighed, IsFresh, Grown};
 
+use crate::Memory;
 use crate::evidence::Evidence;
 use crate::literals::place_of;
 use clause_search::{Search, Weighted};
+use std::alloc::Global;
 
 /// Weights of literals, each of which is to be true, and what all bits cost at least.
 #[derive(Drop)]
@@ -139,6 +141,27 @@ fn lessen(
 }
 
 impl Weights {
+    /// Makes the costs the weights of the parts, with memory for weights of so many definitions.
+    pub(crate) fn new(alloc: Global, costs: &[u32], definitions: usize) -> Result<Weights, Memory>
+        ensures { IfOk result (λ weights. IsFresh costs.now weights) }
+    {
+        Ok(Weights {
+            parts: Vec::from_slice(alloc, costs)?,
+            bounds: Vec::with_capacity(alloc, definitions)?,
+            lower: 0,
+        })
+    }
+
+    /// Makes the costs the weights of the parts again.
+    pub(crate) fn reset(&mut self, costs: &[u32])
+        requires { length self.old.parts.items ≡ length costs.now }
+        ensures { IsFresh costs.now self.new }
+    {
+        self.parts.as_mut_slice().copy_from_slice(costs);
+        self.bounds.clear();
+        self.lower = 0;
+    }
+
     /// Returns the weight of a literal, or 0.
     fn of(&self, vars: usize, literal: i32) -> u32 {
         match place_of(literal) {

@@ -29,6 +29,12 @@ pub record Weighs (rules : Rules) (costs evidence : List ℕ) (literals : List �
   pub below : (a : Assignment) → keeps rules a ≡ true → Knows a evidence (length evidence) → all_true a literals ≡ true
       → weighed rules weights a ≤ false_weight a (priced 1 costs)
 
+-- The weights are the costs.
+pub record IsFresh (costs : List ℕ) (weights : Weights) : Type 0 where
+  pub parts : weights.parts.items ≡ costs
+  pub bounds : weights.bounds.items ≡ []
+  pub lower : weights.lower ≡ 0
+
 -- The rules are the same, or there are more definitions.
 pub record Grown (old new : Rules) : Type 0 where
   pub cnf : new.cnf ≡ old.cnf

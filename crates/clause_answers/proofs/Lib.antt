@@ -4,3 +4,4 @@ pub mod Collected
 pub mod BitCosts
 pub mod CarriedBits
 pub mod Settled
+pub mod Answered

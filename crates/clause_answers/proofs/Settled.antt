@@ -91,18 +91,20 @@ pub first-many : (members : List (List Weighted)) (costs : List ℕ) → take 2 
 first-many members costs e = (first-at members costs e).0
 
 module _ (rules : Rules) (costs : List ℕ) (a : Assignment) (even : length rules.limits ≡ length rules.members) (first : take 2 rules.members ≡ first_two costs) (kept : keeps rules a ≡ true) where
-  pub says-most : same_bit (a (rules.cnf.vars + 1)) (nat_le (false_weight a (priced 1 costs)) (get_or rules.limits 0 0)) ≡ true
-  says-most =
+  pub says-most : (v most : ℕ) → v ≡ rules.cnf.vars → get_or rules.limits 0 0 ≡ most → same_bit (a (v + 1)) (nat_le (false_weight a (priced 1 costs)) most) ≡ true
+  says-most v most e m =
       let f = first-at rules.members costs first in
       let r : respects a (rules.cnf.vars + 1) rules.members rules.limits ≡ true = grind arith in
       let same : (rules.cnf.vars + 1) + 0 ≡ rules.cnf.vars + 1 = omega arith in
-      let bit = respects-at a (rules.cnf.vars + 1) 0 rules.members rules.limits r (omega (arith, f.0)) (omega (arith, f.0)) in
-      rw (same, f.1) at bit
+      let bit = rw (same, f.1) at (respects-at a (rules.cnf.vars + 1) 0 rules.members rules.limits r (omega (arith, f.0)) (omega (arith, f.0))) in
+      subst (λ (x : ℕ). same_bit (a (x + 1)) (nat_le (false_weight a (priced 1 costs)) most) ≡ true) (sym e)
+      (subst (λ (y : ℕ). same_bit (a (rules.cnf.vars + 1)) (nat_le (false_weight a (priced 1 costs)) y) ≡ true) m bit)
 
-  pub says-less : same_bit (a (rules.cnf.vars + 2)) (nat_le (false_weight a (priced 1 costs)) (get_or rules.limits 1 0)) ≡ true
-  says-less =
+  pub says-less : (v less : ℕ) → v ≡ rules.cnf.vars → get_or rules.limits 1 0 ≡ less → same_bit (a (v + 2)) (nat_le (false_weight a (priced 1 costs)) less) ≡ true
+  says-less v less e l =
       let f = first-at rules.members costs first in
       let r : respects a (rules.cnf.vars + 1) rules.members rules.limits ≡ true = grind arith in
       let same : (rules.cnf.vars + 1) + 1 ≡ rules.cnf.vars + 2 = omega arith in
-      let bit = respects-at a (rules.cnf.vars + 1) 1 rules.members rules.limits r (omega (arith, f.0)) (omega (arith, f.0)) in
-      rw (same, f.2) at bit
+      let bit = rw (same, f.2) at (respects-at a (rules.cnf.vars + 1) 1 rules.members rules.limits r (omega (arith, f.0)) (omega (arith, f.0))) in
+      subst (λ (x : ℕ). same_bit (a (x + 2)) (nat_le (false_weight a (priced 1 costs)) less) ≡ true) (sym e)
+      (subst (λ (y : ℕ). same_bit (a (rules.cnf.vars + 2)) (nat_le (false_weight a (priced 1 costs)) y) ≡ true) l bit)

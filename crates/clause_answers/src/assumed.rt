@@ -1,11 +1,12 @@
 ghost use Rattle.std.specs.Prelude.{◌≡◌, ℕ, ◌+◌, ◌^◌, ◌<◌, ◌≤◌, true, false, length, vec_capacity};
 ghost use Rattle.state_rules.specs.Assignments.{Assignment};
-ghost use Rattle.clause_search.specs.Searching.{all_true, are_within};
+ghost use Rattle.clause_search.specs.Searching.{IsModel, Refutes, all_true, all_vars, are_within};
 ghost use Rattle.clause_answers.specs.inner.Known.{Knows, AreTrue};
 
 use crate::evidence::Evidence;
 use crate::literals::{add_all, add_if, add_weighted};
 use crate::weights::Weights;
+use clause_search::{Answer, Search};
 
 // Assumes what is known, each literal with a weight, and some others. The order is always the same, so that a search need not begin anew.
 #[tactic(auto, using(crate::proofs::KnownLiterals::assume_steps))]
@@ -48,4 +49,18 @@ pub(crate) fn assume_range(assumed: &mut Vec<i32>, evidence: &Evidence, is_above
     add_if(assumed, evidence.words().len(), true, true);
     add_if(assumed, evidence.words().len() + 1, false, is_above);
     add_all(assumed, literals);
+}
+
+// Whether there are bits that keep the rules of a search and make literals true. If so, it has them as its model.
+pub(crate) fn meet(search: &mut Search, literals: &[i32]) -> bool
+    requires { are_within (all_vars search.old.rules) literals.now ≡ true }
+    ensures rules { search.new.rules ≡ search.old.rules }
+    ensures model { result ≡ true → IsModel search.old.rules literals.now search.new.model }
+    ensures refuted { result ≡ false → Refutes search.old.rules literals.now }
+{
+    match search.solve(literals) {
+        Answer::Model => true,
+        Answer::Core => false,
+        Answer::Conflict => false,
+    }
 }

@@ -2,18 +2,18 @@ ghost use Rattle.std.specs.Prelude.{◌≡◌, ℕ, ◌+◌, ◌<◌, ◌≤◌,
 ghost use Rattle.state_rules.specs.Bits.{bit_in};
 ghost use Rattle.clause_encoder.specs.Clauses.{is_clause_list};
 ghost use Rattle.conditioner.specs.Models.{total_cost};
-ghost use Rattle.clause_search.specs.Searching.{are_within, all_vars};
+ghost use Rattle.clause_search.specs.Searching.{Rules, are_within};
 ghost use Rattle.clause_answers.specs.inner.Asking.{Asked, Fits, cost_of, IsMinimum, IsLeast, IsFound, NoneFound};
 ghost use Rattle.clause_answers.specs.inner.Weighing.{Weighs};
 ghost use Rattle.clause_answers.specs.inner.Carrying.{first_two, IsOracle};
 
 use crate::Memory;
-use crate::assumed::{assume, assume_range};
+use crate::assumed::{assume, assume_range, meet};
 use crate::cores::{Found, Room, bits_cost, find};
 use crate::evidence::Evidence;
 use crate::weights::Weights;
 use clause_encoder::Cnf;
-use clause_search::{Answer, Search};
+use clause_search::Search;
 use minimiser::TOTAL_LIMIT;
 use std::alloc::Global;
 use std::marker::Model;
@@ -216,9 +216,7 @@ impl Oracle {
             Found::Nothing => Some(None),
             Found::Model => {
                 take_bits(&mut self.bits, self.search.model());
-                if literals.is_empty() {
-                    mem::swap(&mut self.weights, &mut self.trial);
-                }
+                keep(&mut self.weights, &mut self.trial, literals);
                 Some(Some(bits_cost(&self.costs, &self.bits)))
             }
         }
@@ -239,10 +237,11 @@ impl Oracle {
         let mut least = None;
         while self.ask_range(literals) {
             let cost = self.cost();
-            least = Some(cost);
             if cost == 0 {
-                break;
+                self.seek(low, high);
+                return Some(0);
             }
+            least = Some(cost);
             self.seek(0, cost - 1);
         }
         self.seek(low, high);
@@ -261,23 +260,20 @@ impl Oracle {
         ensures low { self.new.low ≡ self.old.low }
         ensures high { self.new.high ≡ self.old.high }
     {
-        let definitions = self.weights.bounds.len();
-        if self.weights.lower < self.high || DEFINITIONS < definitions {
+        let _ = self.search.definitions();
+        if self.weights.lower < self.high || DEFINITIONS < self.weights.bounds.len() {
             return None;
         }
         assume(&mut self.room.assumed, &self.evidence, &self.weights, literals);
-        let _ = self.search.definitions();
-        match self.search.solve(self.room.assumed.as_slice()) {
-            Answer::Model => {
-                let cost = bits_cost(&self.costs, self.search.model());
-                if cost < self.low || self.high < cost {
-                    return None;
-                }
-                take_bits(&mut self.bits, self.search.model());
-                Some(true)
-            }
-            _ => Some(false),
+        if !meet(&mut self.search, self.room.assumed.as_slice()) {
+            return Some(false);
         }
+        let cost = bits_cost(&self.costs, self.search.model());
+        if cost < self.low || self.high < cost {
+            return None;
+        }
+        take_bits(&mut self.bits, self.search.model());
+        Some(true)
     }
 
     // Searches with the definitions of the range.
@@ -292,15 +288,13 @@ impl Oracle {
         ensures high { self.new.high ≡ self.old.high }
     {
         bound(&mut self.search, &mut self.weights, &self.costs, self.high, self.low.saturating_sub(1));
-        assume_range(&mut self.room.assumed, &self.evidence, self.low != 0, literals);
         let _ = self.search.definitions();
-        match self.search.solve(self.room.assumed.as_slice()) {
-            Answer::Model => {
-                take_bits(&mut self.bits, self.search.model());
-                true
-            }
-            _ => false,
+        assume_range(&mut self.room.assumed, &self.evidence, self.low != 0, literals);
+        if !meet(&mut self.search, self.room.assumed.as_slice()) {
+            return false;
         }
+        take_bits(&mut self.bits, self.search.model());
+        true
     }
 }
 
@@ -317,6 +311,15 @@ fn bound(search: &mut Search, weights: &mut Weights, costs: &[u32], most: u32, l
     if search.definitions() < 2 || search.limit(0) != most || search.limit(1) != less {
         search.restart(most, less);
         weights.reset(costs);
+    }
+}
+
+// Takes over what was found out without more literals.
+fn keep(weights: &mut Weights, trial: &mut Weights, literals: &[i32])
+    ensures { (rules : Rules) (costs evidence : List ℕ) → Weighs rules costs evidence [] weights.old → Weighs rules costs evidence literals.now trial.old → Weighs rules costs evidence [] weights.new }
+{
+    if literals.is_empty() {
+        mem::swap(weights, trial);
     }
 }
 

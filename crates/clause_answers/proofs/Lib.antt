@@ -1,3 +1,10 @@
+pub mod KnownLiterals
+pub mod Spread
+pub mod Collected
+pub mod BitCosts
+pub mod CarriedBits
+pub mod Settled
+pub mod Answered
 pub mod States
 pub mod Prefix
 pub mod Completing

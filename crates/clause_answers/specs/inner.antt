@@ -1,3 +1,6 @@
 -- What only the private contracts of this crate cite.
 pub mod Asking
+pub mod Known
+pub mod Weighing
+pub mod Carrying
 pub mod Listed

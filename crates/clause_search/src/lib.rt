@@ -4,6 +4,7 @@
 mod definitions;
 mod exhaustion;
 mod facts;
+mod finder;
 mod kernel;
 mod literals;
 mod marks;

@@ -1,14 +1,20 @@
-ghost use Rattle.std.specs.Prelude.{◌≡◌, ◌+◌, ◌≤◌, ◌<◌, ◌++◌, [], ◌∷◌, true, false, IfOk, IfSome, OnSome, IsNone, length, take, slice_index_or};
+ghost use Rattle.std.specs.Prelude.{◌≡◌, ◌+◌, ◌≤◌, ◌<◌, ◌++◌, [], ◌∷◌, true, false, IfOk, IfSome, OnSome, IsNone, Some, length, take, slice_index_or};
 ghost use Rattle.clause_encoder.specs.Clauses.{is_clause_list};
-ghost use Rattle.clause_search.specs.Searching.{Rules, IsModel, Refutes, all_vars, are_within, are_ordered, first_rules};
+ghost use Rattle.state_rules.specs.Assignments.{Assignment};
+ghost use Rattle.clause_search.specs.Searching.{Rules, IsModel, Refutes, all_true, all_vars, are_within, are_ordered, first_rules};
 
 use crate::Memory;
 use crate::exhaustion::try_all;
+use crate::finder::{End, Finder};
 use crate::kernel::{Kernel, Room};
+use crate::literals::all_true;
 use crate::weighted::Weighted;
 use clause_encoder::Cnf;
 use std::alloc::Global;
 use std::marker::Model;
+
+// How often a search begins anew before all values are tried.
+const TURNS: u32 = 1_000_000;
 
 /// What a search found: bits that keep the rules and make all assumptions true, or that there are none. Of a core it is known which of the
 /// assumptions are enough for that.
@@ -23,8 +29,11 @@ pub enum Answer {
 #[derive(Drop)]
 pub struct Search {
     kernel: Kernel,
+    finder: Finder,
     model: Vec<bool>,
     core: Vec<i32>,
+    // how often the search gave up
+    stops: u64,
 }
 
 impl Model for Search {
@@ -62,8 +71,10 @@ impl Search {
         let vars = cnf.vars() as usize + 2 + room.definitions.min(1 << 20);
         Ok(Search {
             kernel: Kernel::new(alloc, cnf, costs, room)?,
+            finder: Finder::new(alloc, cnf, costs, room)?,
             model: vec![in alloc; false; vars]?,
             core: Vec::with_capacity(alloc, vars)?,
+            stops: 0,
         })
     }
 
@@ -104,6 +115,7 @@ impl Search {
         if self.model.len() < variable as usize {
             return None;
         }
+        self.finder.define(members, limit);
         self.kernel.define(members, limit)
     }
 
@@ -112,6 +124,7 @@ impl Search {
         ensures { self.new.rules ≡ record self.old.rules { members = take 2 self.old.rules.members; limits = most ∷ less ∷ [] } }
     {
         self.kernel.restart(most, less);
+        self.finder.restart(most, less);
     }
 
     /// Searches for bits that keep the rules and make all assumptions true.
@@ -123,11 +136,58 @@ impl Search {
         ensures assumed { result ≡ Answer.Core → Refutes self.new.rules assumptions.now }
         ensures core { result ≡ Answer.Core → Refutes self.new.rules self.new.core }
     {
+        for _turn in 0..TURNS {
+            match self.attempt(assumptions) {
+                Some(answer) => return answer,
+                None => self.begin_anew(),
+            }
+        }
         if try_all(&self.kernel, assumptions, &mut self.model) {
             Answer::Model
         } else {
             Answer::Conflict
         }
+    }
+
+    // Searches once. The search may give up, and what it finds is checked.
+    fn attempt(&mut self, assumptions: &[i32]) -> Option<Answer>
+        ensures rules { self.new.rules ≡ self.old.rules }
+        ensures model { result ≡ Some Answer.Model → IsModel self.new.rules assumptions.now self.new.model }
+        ensures conflict { result ≡ Some Answer.Conflict → Refutes self.new.rules assumptions.now }
+        ensures assumed { result ≡ Some Answer.Core → Refutes self.new.rules assumptions.now }
+        ensures core { result ≡ Some Answer.Core → Refutes self.new.rules self.new.core }
+    {
+        match self.finder.run(&mut self.kernel, assumptions) {
+            End::Bits => {
+                read_bits(&self.finder, &mut self.model);
+                self.kernel.put_bits(&mut self.model);
+                if self.kernel.is_model(&self.model) && all_true(&self.model, assumptions) {
+                    return Some(Answer::Model);
+                }
+            }
+            End::Refuted => {
+                read_core(self.finder.core(), assumptions, &mut self.core);
+                if self.kernel.is_core(&self.core, self.finder.causes()) {
+                    return Some(Answer::Core);
+                }
+            }
+            End::Stopped => {}
+        }
+        None
+    }
+
+    // Drops what was learned, and lets the search begin in another order.
+    fn begin_anew(&mut self)
+        ensures { self.new.rules ≡ self.old.rules }
+    {
+        self.stops = self.stops.saturating_add(1);
+        self.kernel.retain(&[]);
+        self.finder.begin_anew(self.stops);
+    }
+
+    /// Returns how often the search gave up, and how many conflicts it met.
+    pub fn counts(&self) -> (u64, u64) {
+        (self.stops, self.finder.conflicts())
     }
 
     /// Returns the bits of the last model, variable 1 first.
@@ -143,5 +203,25 @@ impl Search {
         ensures { result.now ≡ self.now.core }
     {
         self.core.as_slice()
+    }
+}
+
+fn read_bits(finder: &Finder, bits: &mut [bool]) {
+    for (at, bit) in bits.iter_mut().enumerate() {
+        *bit = finder.bit(at);
+    }
+}
+
+// The assumptions at these places.
+#[tactic(auto, using(crate::proofs::Clauses::all_true_more))]
+fn read_core(places: &[u32], assumptions: &[i32], core: &mut Vec<i32>)
+    ensures { (a : Assignment) → all_true a assumptions.now ≡ true → all_true a core.new.items ≡ true }
+{
+    core.clear();
+    for place in places {
+        let place = *place as usize;
+        if place < assumptions.len() && core.len() < core.capacity() {
+            let _ = core.push(assumptions[place]);
+        }
     }
 }

@@ -1,9 +1,10 @@
 -- What a search is asked for: bits of all variables that fit a question, and cost little.
-use Rattle.std.specs.Prelude.{◌≡◌, ℕ, ◌≤◌, Bool, true, false, List, length, take, ℤ, Option, Some, None}
+use Rattle.std.specs.Prelude.{◌≡◌, ℕ, ◌+◌, ◌≤◌, Bool, true, false, List, length, take, ℤ, Option, Some, None}
 use Rattle.state_rules.specs.Assignments.{assignment}
 use Rattle.state_rules.specs.Ranking.{cost}
 use Rattle.clause_encoder.specs.Clauses.{all_hold}
 use Rattle.conditioner.specs.Models.{fits_evidence}
+use Rattle.minimiser.specs.declared.pass.TheConstants.{TOTAL_LIMIT}
 use Rattle.clause_search.specs.Searching.{all_true}
 use Rattle.clause_answers.specs.Questions.{Question}
 
@@ -47,3 +48,14 @@ pub record IsFound (asked : Asked) (literals : List ℤ) : Type 0 where
 abbrev pub NoneFound : Asked → List ℤ → Type 0
 NoneFound asked literals = (bits : List Bool) → Fits asked.question bits → asked.low ≤ cost_of asked.question bits
     → cost_of asked.question bits ≤ asked.high → all_true (assignment bits) literals ≡ false
+
+-- Bits that fit, make literals true and cost `n`, the cost after which `high` comes; or nothing was found, and no bits cost more than `high`.
+pub record IsLowered (q : Question) (literals : List ℤ) (bits : List Bool) (high n : ℕ) : Type 0 where
+  pub fits : Fits q bits
+  pub true_ : all_true (assignment bits) literals ≡ true
+  pub costs : cost_of q bits ≡ n
+  pub next : high + 1 ≡ n
+
+abbrev pub Lowered : Question → List ℤ → List Bool → ℕ → Option ℕ → Type 0
+Lowered q literals bits high None = high ≡ TOTAL_LIMIT
+Lowered q literals bits high (Some n) = IsLowered q literals bits high n

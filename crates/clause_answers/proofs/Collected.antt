@@ -1,0 +1,34 @@
+-- What a core adds to the least cost.
+use Rattle.std.proofs.Common.{◌≡◌, ℕ, zero, suc, ◌+◌, ◌-◌, ◌*◌, ◌<◌, ◌≤◌, true, false, List, [], ◌∷◌, ◌++◌, length, get_or, take, ℤ, refl, arith}
+use Rattle.std.proofs.lemmas.List.Folds.{list_all_more}
+use Rattle.state_rules.specs.Assignments.{Assignment}
+use Rattle.clause_search.specs.declared.weighted.Weighted.{Weighted}
+use Rattle.clause_search.specs.Searching.{Rules, holds, all_true, false_weight}
+use Rattle.clause_answers.specs.inner.Weighing.{unit_if_false, Grown}
+
+pub weight-push : (a : Assignment) (members : List Weighted) (m : Weighted) (l : ℤ) → m ≡ record { literal = l; weight = 1 } → false_weight a (members ++ m ∷ []) ≡ false_weight a members + unit_if_false a l
+weight-push a [] m l e = grind arith
+weight-push a (x ∷ members) m l e = grind (arith, weight-push a members m l e)
+
+pub grown-trans : (first second third : Rules) → Grown first second → Grown second third → Grown first third
+grown-trans first second third g h = record {
+  cnf = grind (arith, g.cnf, h.cnf);
+  more = omega (arith, g.more, h.more);
+  first = λ two. grind (arith, g.first two, h.first (omega (arith, two, g.more)));
+  kept = λ a k. g.kept a (h.kept a k);
+  spread_ = λ a weights short. grind (arith, g.spread_ a weights short, h.spread_ a weights (omega (arith, short, g.more)));
+}
+
+pub ruleset collect_steps = (weight-push, grown-trans)
+
+pub ruleset raise_steps = (grown-trans)
+
+-- a literal of a core that is given
+pub some-given : (a : Assignment) (core : List ℤ) (i n : ℕ) (d l : ℤ) → i < length core → l ≡ get_or core i d → holds a l ≡ true → (all_true a (take i core) ≡ false → 1 ≤ n)
+    → all_true a (take (i + 1) core) ≡ false → 1 ≤ n
+some-given a core i n d l h is t before f = grind (arith, list_all_more (holds a) core i d h, before)
+
+-- and one that is collected
+pub some-moved : (a : Assignment) (core : List ℤ) (i n m : ℕ) (d l : ℤ) → i < length core → l ≡ get_or core i d → m ≡ n + unit_if_false a l → (all_true a (take i core) ≡ false → 1 ≤ n)
+    → all_true a (take (i + 1) core) ≡ false → 1 ≤ m
+some-moved a core i n m d l h is e before f = grind (arith, list_all_more (holds a) core i d h, before)

@@ -115,8 +115,9 @@ impl Search {
         if self.model.len() < variable as usize {
             return None;
         }
+        let defined = self.kernel.define(members, limit)?;
         self.finder.define(members, limit);
-        self.kernel.define(members, limit)
+        Some(defined)
     }
 
     /// Drops what was learned, and all defined variables except the first two, which get these limits.

@@ -1,14 +1,22 @@
 ghost use Rattle.std.specs.Prelude.{◌≡◌, ◌+◌, ◌≤◌, ◌<◌, ◌++◌, [], ◌∷◌, true, false, IfOk, IfSome, OnSome, IsNone, length, take, slice_index_or};
+ghost use Rattle.state_rules.specs.Assignments.{assignment};
 ghost use Rattle.clause_encoder.specs.Clauses.{is_clause_list};
-ghost use Rattle.clause_search.specs.Searching.{Rules, IsModel, Refutes, all_vars, are_within, are_ordered, first_rules};
+ghost use Rattle.clause_search.specs.Searching.{Rules, IsModel, Refutes, keeps, all_true, all_vars, are_within, are_ordered, first_rules};
 
 use crate::Memory;
 use crate::exhaustion::try_all;
+use crate::finder::{End, Finder};
 use crate::kernel::{Kernel, Room};
+use crate::literals::all_true;
 use crate::weighted::Weighted;
 use clause_encoder::Cnf;
 use std::alloc::Global;
 use std::marker::Model;
+
+// How often a search begins anew, and how many steps it takes at most each time.
+const TURNS: u32 = 100;
+
+const STEPS: u64 = 1 << 40;
 
 /// What a search found: bits that keep the rules and make all assumptions true, or that there are none. Of a core it is known which of the
 /// assumptions are enough for that.
@@ -23,6 +31,7 @@ pub enum Answer {
 #[derive(Drop)]
 pub struct Search {
     kernel: Kernel,
+    finder: Finder,
     model: Vec<bool>,
     core: Vec<i32>,
 }
@@ -51,6 +60,62 @@ fn room_for(cnf: &Cnf) -> Room {
     }
 }
 
+// Searches again and again, unless the kernel accepts what is found.
+fn find(
+    kernel: &mut Kernel,
+    finder: &mut Finder,
+    model: &mut [bool],
+    core: &mut Vec<i32>,
+    assumptions: &[i32],
+) -> Option<Answer>
+    ensures rules { kernel.new ≡ kernel.old }
+    ensures long { length model.new ≡ length model.old }
+    ensures kept { IfSome result (λ answer. answer ≡ Answer.Model → keeps kernel.old (assignment model.new) ≡ true) }
+    ensures assumed { IfSome result (λ answer. answer ≡ Answer.Model → all_true (assignment model.new) assumptions.now ≡ true) }
+    ensures refuted { IfSome result (λ answer. answer ≡ Answer.Core → Refutes kernel.old assumptions.now) }
+    ensures core { IfSome result (λ answer. answer ≡ Answer.Core → Refutes kernel.old core.new.items) }
+    ensures known { IfSome result (λ answer. answer ≡ Answer.Conflict → ⊥) }
+{
+    for _turn in 0..TURNS {
+        match finder.run(kernel, assumptions, STEPS) {
+            End::Bits => {
+                read_bits(finder, model);
+                if kernel.is_model(model) && all_true(model, assumptions) {
+                    return Some(Answer::Model);
+                }
+            }
+            End::Refuted => {
+                read_core(finder, core);
+                if kernel.is_core(core, finder.causes())
+                    && kernel.is_core(assumptions, finder.causes())
+                {
+                    return Some(Answer::Core);
+                }
+            }
+            End::Stopped => {}
+        }
+        finder.forget(kernel);
+    }
+    None
+}
+
+fn read_bits(finder: &Finder, bits: &mut [bool])
+    ensures { length bits.new ≡ length bits.old }
+{
+    for (at, bit) in bits.iter_mut().enumerate() {
+        *bit = finder.bit(at);
+    }
+}
+
+fn read_core(finder: &Finder, core: &mut Vec<i32>) {
+    core.clear();
+    for literal in finder.core() {
+        if core.len() < core.capacity() {
+            let _ = core.push(*literal);
+        }
+    }
+}
+
 impl Search {
     /// Makes a search over clauses whose first variables are parts, true if they are ok. Two variables are defined: each says whether the
     /// faulty parts cost at most its limit, which is 0 at first.
@@ -60,8 +125,10 @@ impl Search {
     {
         let room = room_for(cnf);
         let vars = cnf.vars() as usize + 2 + room.definitions.min(1 << 20);
+        let kernel = Kernel::new(alloc, cnf, costs, room)?;
         Ok(Search {
-            kernel: Kernel::new(alloc, cnf, costs, room)?,
+            finder: Finder::new(alloc, cnf, kernel.members(0), room)?,
+            kernel,
             model: vec![in alloc; false; vars]?,
             core: Vec::with_capacity(alloc, vars)?,
         })
@@ -104,7 +171,9 @@ impl Search {
         if self.model.len() < variable as usize {
             return None;
         }
-        self.kernel.define(members, limit)
+        let variable = self.kernel.define(members, limit)?;
+        self.finder.define(members, limit);
+        Some(variable)
     }
 
     /// Drops what was learned, and all defined variables except the first two, which get these limits.
@@ -112,6 +181,7 @@ impl Search {
         ensures { self.new.rules ≡ record self.old.rules { members = take 2 self.old.rules.members; limits = most ∷ less ∷ [] } }
     {
         self.kernel.restart(most, less);
+        self.finder.restart(most, less);
     }
 
     /// Searches for bits that keep the rules and make all assumptions true.
@@ -123,11 +193,30 @@ impl Search {
         ensures assumed { result ≡ Answer.Core → Refutes self.new.rules assumptions.now }
         ensures core { result ≡ Answer.Core → Refutes self.new.rules self.new.core }
     {
+        if let Some(answer) = find(
+            &mut self.kernel,
+            &mut self.finder,
+            &mut self.model,
+            &mut self.core,
+            assumptions,
+        ) {
+            return answer;
+        }
         if try_all(&self.kernel, assumptions, &mut self.model) {
             Answer::Model
         } else {
             Answer::Conflict
         }
+    }
+
+    /// Returns the number of conflicts so far.
+    pub fn conflicts(&self) -> u64 {
+        self.finder.conflicts()
+    }
+
+    /// Returns how often the search had to begin anew, since the kernel refused a step or an answer.
+    pub fn stops(&self) -> u64 {
+        self.finder.stops()
     }
 
     /// Returns the bits of the last model, variable 1 first.

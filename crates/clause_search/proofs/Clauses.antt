@@ -1,5 +1,5 @@
 -- Literals of a clause.
-use Rattle.std.proofs.Common.{◌≡◌, ℕ, zero, suc, ◌+◌, ◌<◌, true, false, List, [], ◌∷◌, length, get_or, ℤ, refl, arith}
+use Rattle.std.proofs.Common.{◌≡◌, ℕ, zero, suc, ◌+◌, ◌<◌, true, false, List, [], ◌∷◌, ◌++◌, length, get_or, ℤ, refl, arith}
 use Rattle.state_rules.specs.Assignments.{Assignment}
 use Rattle.clause_encoder.specs.Clauses.{Clause, is_true_clause}
 use Rattle.clause_search.specs.Searching.{holds, all_true}
@@ -15,3 +15,9 @@ pub true_at : (a : Assignment) (literals : List ℤ) (i : ℕ) (d : ℤ) → all
 true_at a [] i d e h = absurd (omega arith)
 true_at a (l ∷ literals) zero d e h = grind arith
 true_at a (l ∷ literals) (suc i) d e h = grind (arith, true_at a literals i d)
+
+-- Literals that are all true and one more of others that are are all true.
+pub all_true_more : (a : Assignment) (core literals : List ℤ) (i : ℕ) (d : ℤ) → all_true a core ≡ true → all_true a literals ≡ true → i < length literals
+    → all_true a (core ++ get_or literals i d ∷ []) ≡ true
+all_true_more a [] literals i d e h lt = grind (arith, true_at a literals i d h lt)
+all_true_more a (l ∷ core) literals i d e h lt = grind (arith, all_true_more a core literals i d)

@@ -141,6 +141,17 @@ impl Definitions {
         }
     }
 
+    /// Gives the variables after `vars` their bits by their definitions, as far as there is room for them.
+    pub(crate) fn put_bits(&self, bits: &mut [bool], vars: u32) {
+        for at in 0..self.len() {
+            let bit = is_at_most(bits, self.members(at), self.limit(at));
+            let place = (vars as usize).saturating_add(at);
+            if place < bits.len() {
+                bits[place] = bit;
+            }
+        }
+    }
+
     /// Whether bits respect the definitions of the variables after `vars`.
     pub(crate) fn respects(&self, bits: &[bool], vars: u32) -> bool
         ensures { result ≡ respects (assignment bits.now) (vars + 1) self.now.members self.now.limits }

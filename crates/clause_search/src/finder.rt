@@ -25,6 +25,9 @@ use crate::weighted::Weighted;
 use clause_encoder::Cnf;
 use std::alloc::Global;
 
+// The most steps of a run.
+const STEPS: u64 = 1 << 40;
+
 /// What a run of steps ends with.
 #[derive(Debug, Clone, Copy)]
 pub(crate) enum End {
@@ -45,7 +48,6 @@ pub(crate) struct Finder {
     // which learned clauses are kept
     kept: Vec<bool>,
     conflicts: u64,
-    stops: u64,
 }
 
 impl Finder {
@@ -69,7 +71,6 @@ impl Finder {
             empty,
             kept: Vec::with_capacity(alloc, room.clauses)?,
             conflicts: 0,
-            stops: 0,
         })
     }
 
@@ -84,13 +85,13 @@ impl Finder {
         self.settled = 0;
     }
 
-    /// Searches for bits under which all assumptions are true, for at most so many steps.
-    pub(crate) fn run(&mut self, kernel: &mut Kernel, assumptions: &[i32], steps: u64) -> End
+    /// Searches for bits under which all assumptions are true.
+    pub(crate) fn run(&mut self, kernel: &mut Kernel, assumptions: &[i32]) -> End
         ensures { kernel.new ≡ kernel.old }
     {
         let shared = self.state.trail.shared(assumptions);
         self.state.go_back(shared);
-        for _step in 0..steps {
+        for _step in 0..STEPS {
             if let Some(end) = self.step(kernel, assumptions) {
                 return end;
             }
@@ -98,13 +99,10 @@ impl Finder {
         End::Stopped
     }
 
-    /// Forgets what it learned, after a step or an answer that the kernel refused. The order of the variables stays, so the next run goes another way.
-    pub(crate) fn forget(&mut self, kernel: &mut Kernel)
-        ensures { kernel.new ≡ kernel.old }
-    {
-        self.stops = self.stops.saturating_add(1);
-        kernel.retain(&[]);
-        self.empty = self.state.forget();
+    /// Begins anew, since the kernel refused a step or an answer, and has forgotten what was learned. The order of the variables stays, so that the
+    /// next run goes another way.
+    pub(crate) fn begin_anew(&mut self) {
+        self.empty = self.state.begin_anew();
         self.settled = 0;
     }
 
@@ -250,8 +248,8 @@ impl Finder {
         self.state.trail.value(positive(variable)) == TRUE
     }
 
-    /// The assumptions that were refuted.
-    pub(crate) fn core(&self) -> &[i32] {
+    /// The places of the assumptions that are not all true.
+    pub(crate) fn core(&self) -> &[u32] {
         self.analysis.core()
     }
 
@@ -263,10 +261,5 @@ impl Finder {
     /// The number of conflicts so far.
     pub(crate) fn conflicts(&self) -> u64 {
         self.conflicts
-    }
-
-    /// How often it stopped.
-    pub(crate) fn stops(&self) -> u64 {
-        self.stops
     }
 }

@@ -162,6 +162,11 @@ impl Kernel {
         self.definitions.restart(most, less);
     }
 
+    /// Gives the defined variables their bits.
+    pub(crate) fn put_bits(&self, bits: &mut [bool]) {
+        self.definitions.put_bits(bits, self.vars);
+    }
+
     /// Whether bits keep the rules.
     pub(crate) fn is_model(&self, bits: &[bool]) -> bool
         ensures { result ≡ keeps self.now (assignment bits.now) }

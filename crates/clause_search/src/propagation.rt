@@ -220,7 +220,7 @@ impl Propagation {
     }
 
     /// Begins anew, without the clauses that were learned.
-    pub(crate) fn forget(&mut self) -> u32 {
+    pub(crate) fn begin_anew(&mut self) -> u32 {
         self.clear();
         self.begin()
     }

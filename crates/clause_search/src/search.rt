@@ -1,7 +1,7 @@
-ghost use Rattle.std.specs.Prelude.{◌≡◌, ◌+◌, ◌≤◌, ◌<◌, ◌++◌, [], ◌∷◌, true, false, IfOk, IfSome, OnSome, IsNone, length, take, slice_index_or};
-ghost use Rattle.state_rules.specs.Assignments.{assignment};
+ghost use Rattle.std.specs.Prelude.{◌≡◌, ◌+◌, ◌≤◌, ◌<◌, ◌++◌, [], ◌∷◌, true, false, IfOk, IfSome, OnSome, IsNone, Some, length, take, slice_index_or};
 ghost use Rattle.clause_encoder.specs.Clauses.{is_clause_list};
-ghost use Rattle.clause_search.specs.Searching.{Rules, IsModel, Refutes, keeps, all_true, all_vars, are_within, are_ordered, first_rules};
+ghost use Rattle.state_rules.specs.Assignments.{Assignment};
+ghost use Rattle.clause_search.specs.Searching.{Rules, IsModel, Refutes, all_true, all_vars, are_within, are_ordered, first_rules};
 
 use crate::Memory;
 use crate::exhaustion::try_all;
@@ -13,10 +13,8 @@ use clause_encoder::Cnf;
 use std::alloc::Global;
 use std::marker::Model;
 
-// How often a search begins anew, and how many steps it takes at most each time.
-const TURNS: u32 = 100;
-
-const STEPS: u64 = 1 << 40;
+// How often a search begins anew before all values are tried.
+const TURNS: u32 = 1_000_000;
 
 /// What a search found: bits that keep the rules and make all assumptions true, or that there are none. Of a core it is known which of the
 /// assumptions are enough for that.
@@ -34,6 +32,8 @@ pub struct Search {
     finder: Finder,
     model: Vec<bool>,
     core: Vec<i32>,
+    // how often the search gave up
+    stops: u64,
 }
 
 impl Model for Search {
@@ -60,62 +60,6 @@ fn room_for(cnf: &Cnf) -> Room {
     }
 }
 
-// Searches again and again, unless the kernel accepts what is found.
-fn find(
-    kernel: &mut Kernel,
-    finder: &mut Finder,
-    model: &mut [bool],
-    core: &mut Vec<i32>,
-    assumptions: &[i32],
-) -> Option<Answer>
-    ensures rules { kernel.new ≡ kernel.old }
-    ensures long { length model.new ≡ length model.old }
-    ensures kept { IfSome result (λ answer. answer ≡ Answer.Model → keeps kernel.old (assignment model.new) ≡ true) }
-    ensures assumed { IfSome result (λ answer. answer ≡ Answer.Model → all_true (assignment model.new) assumptions.now ≡ true) }
-    ensures refuted { IfSome result (λ answer. answer ≡ Answer.Core → Refutes kernel.old assumptions.now) }
-    ensures core { IfSome result (λ answer. answer ≡ Answer.Core → Refutes kernel.old core.new.items) }
-    ensures known { IfSome result (λ answer. answer ≡ Answer.Conflict → ⊥) }
-{
-    for _turn in 0..TURNS {
-        match finder.run(kernel, assumptions, STEPS) {
-            End::Bits => {
-                read_bits(finder, model);
-                if kernel.is_model(model) && all_true(model, assumptions) {
-                    return Some(Answer::Model);
-                }
-            }
-            End::Refuted => {
-                read_core(finder, core);
-                if kernel.is_core(core, finder.causes())
-                    && kernel.is_core(assumptions, finder.causes())
-                {
-                    return Some(Answer::Core);
-                }
-            }
-            End::Stopped => {}
-        }
-        finder.forget(kernel);
-    }
-    None
-}
-
-fn read_bits(finder: &Finder, bits: &mut [bool])
-    ensures { length bits.new ≡ length bits.old }
-{
-    for (at, bit) in bits.iter_mut().enumerate() {
-        *bit = finder.bit(at);
-    }
-}
-
-fn read_core(finder: &Finder, core: &mut Vec<i32>) {
-    core.clear();
-    for literal in finder.core() {
-        if core.len() < core.capacity() {
-            let _ = core.push(*literal);
-        }
-    }
-}
-
 impl Search {
     /// Makes a search over clauses whose first variables are parts, true if they are ok. Two variables are defined: each says whether the
     /// faulty parts cost at most its limit, which is 0 at first.
@@ -131,6 +75,7 @@ impl Search {
             kernel,
             model: vec![in alloc; false; vars]?,
             core: Vec::with_capacity(alloc, vars)?,
+            stops: 0,
         })
     }
 
@@ -171,9 +116,9 @@ impl Search {
         if self.model.len() < variable as usize {
             return None;
         }
-        let variable = self.kernel.define(members, limit)?;
+        let defined = self.kernel.define(members, limit)?;
         self.finder.define(members, limit);
-        Some(variable)
+        Some(defined)
     }
 
     /// Drops what was learned, and all defined variables except the first two, which get these limits.
@@ -193,14 +138,11 @@ impl Search {
         ensures assumed { result ≡ Answer.Core → Refutes self.new.rules assumptions.now }
         ensures core { result ≡ Answer.Core → Refutes self.new.rules self.new.core }
     {
-        if let Some(answer) = find(
-            &mut self.kernel,
-            &mut self.finder,
-            &mut self.model,
-            &mut self.core,
-            assumptions,
-        ) {
-            return answer;
+        for _turn in 0..TURNS {
+            match self.attempt(assumptions) {
+                Some(answer) => return answer,
+                None => self.begin_anew(),
+            }
         }
         if try_all(&self.kernel, assumptions, &mut self.model) {
             Answer::Model
@@ -209,14 +151,45 @@ impl Search {
         }
     }
 
-    /// Returns the number of conflicts so far.
-    pub fn conflicts(&self) -> u64 {
-        self.finder.conflicts()
+    // Searches once. The search may give up, and what it finds is checked.
+    fn attempt(&mut self, assumptions: &[i32]) -> Option<Answer>
+        ensures rules { self.new.rules ≡ self.old.rules }
+        ensures model { result ≡ Some Answer.Model → IsModel self.new.rules assumptions.now self.new.model }
+        ensures conflict { result ≡ Some Answer.Conflict → Refutes self.new.rules assumptions.now }
+        ensures assumed { result ≡ Some Answer.Core → Refutes self.new.rules assumptions.now }
+        ensures core { result ≡ Some Answer.Core → Refutes self.new.rules self.new.core }
+    {
+        match self.finder.run(&mut self.kernel, assumptions) {
+            End::Bits => {
+                read_bits(&self.finder, &mut self.model);
+                self.kernel.put_bits(&mut self.model);
+                if self.kernel.is_model(&self.model) && all_true(&self.model, assumptions) {
+                    return Some(Answer::Model);
+                }
+            }
+            End::Refuted => {
+                read_core(self.finder.core(), assumptions, &mut self.core);
+                if self.kernel.is_core(&self.core, self.finder.causes()) {
+                    return Some(Answer::Core);
+                }
+            }
+            End::Stopped => {}
+        }
+        None
     }
 
-    /// Returns how often the search had to begin anew, since the kernel refused a step or an answer.
-    pub fn stops(&self) -> u64 {
-        self.finder.stops()
+    // Drops what was learned, and lets the search begin in another order.
+    fn begin_anew(&mut self)
+        ensures { self.new.rules ≡ self.old.rules }
+    {
+        self.stops = self.stops.saturating_add(1);
+        self.kernel.retain(&[]);
+        self.finder.begin_anew();
+    }
+
+    /// Returns how often the search gave up, and how many conflicts it met.
+    pub fn counts(&self) -> (u64, u64) {
+        (self.stops, self.finder.conflicts())
     }
 
     /// Returns the bits of the last model, variable 1 first.
@@ -232,5 +205,25 @@ impl Search {
         ensures { result.now ≡ self.now.core }
     {
         self.core.as_slice()
+    }
+}
+
+fn read_bits(finder: &Finder, bits: &mut [bool]) {
+    for (at, bit) in bits.iter_mut().enumerate() {
+        *bit = finder.bit(at);
+    }
+}
+
+// The assumptions at these places.
+#[tactic(auto, using(crate::proofs::Clauses::all_true_more))]
+fn read_core(places: &[u32], assumptions: &[i32], core: &mut Vec<i32>)
+    ensures { (a : Assignment) → all_true a assumptions.now ≡ true → all_true a core.new.items ≡ true }
+{
+    core.clear();
+    for place in places {
+        let place = *place as usize;
+        if place < assumptions.len() && core.len() < core.capacity() {
+            let _ = core.push(assumptions[place]);
+        }
     }
 }

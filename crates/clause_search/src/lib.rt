@@ -1,6 +1,9 @@
 //! A search for bits that make clauses true. A small kernel checks what it finds.
 #![tactic(auto)]
 
+mod analysis;
+mod counters;
+mod database;
 mod definitions;
 mod exhaustion;
 mod facts;
@@ -8,7 +11,12 @@ mod finder;
 mod kernel;
 mod literals;
 mod marks;
+mod order;
+mod propagation;
+mod row;
 mod search;
+mod trail;
+mod watches;
 mod weighted;
 
 pub use search::{Answer, Search};

@@ -69,9 +69,10 @@ impl Search {
     {
         let room = room_for(cnf);
         let vars = cnf.vars() as usize + 2 + room.definitions.min(1 << 20);
+        let kernel = Kernel::new(alloc, cnf, costs, room)?;
         Ok(Search {
-            kernel: Kernel::new(alloc, cnf, costs, room)?,
-            finder: Finder::new(alloc, cnf, costs, room)?,
+            finder: Finder::new(alloc, cnf, kernel.members(0), room)?,
+            kernel,
             model: vec![in alloc; false; vars]?,
             core: Vec::with_capacity(alloc, vars)?,
             stops: 0,
@@ -183,7 +184,7 @@ impl Search {
     {
         self.stops = self.stops.saturating_add(1);
         self.kernel.retain(&[]);
-        self.finder.begin_anew(self.stops);
+        self.finder.begin_anew();
     }
 
     /// Returns how often the search gave up, and how many conflicts it met.

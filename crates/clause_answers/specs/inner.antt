@@ -4,3 +4,4 @@ pub mod Known
 pub mod Weighing
 pub mod Carrying
 pub mod Listed
+pub mod Cases

@@ -2,11 +2,14 @@
 #![tactic(auto)]
 
 mod assumed;
+mod case_search;
 mod cores;
 mod evidence;
 mod finding;
 mod literals;
 mod oracle;
+mod states;
 mod weights;
 
+pub use case_search::CaseSearch;
 pub use std::alloc::AllocError as Memory;

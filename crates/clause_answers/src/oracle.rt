@@ -121,6 +121,14 @@ impl Oracle {
         self.high = high;
     }
 
+    /// Returns the range of costs of `ask`.
+    pub(crate) fn range(&self) -> (u32, u32)
+        ensures low { result.0 ≡ self.now.low }
+        ensures high { result.1 ≡ self.now.high }
+    {
+        (self.low, self.high)
+    }
+
     /// Whether there are bits that fit, make the literals true and have a cost in the range. If so, they are then in `bits`.
     pub(crate) fn ask(&mut self, literals: &[i32]) -> bool
         requires within { are_within self.old.question.cnf.vars literals.now ≡ true }

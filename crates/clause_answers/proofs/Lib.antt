@@ -9,3 +9,4 @@ pub mod States
 pub mod Prefix
 pub mod Completing
 pub mod Lists
+pub mod StateWords

@@ -10,7 +10,7 @@ ghost use Rattle.clause_answers.specs.inner.Listed.{FindsNext};
 use crate::Memory;
 use crate::finding::{first_state, next_state};
 use crate::oracle::Oracle;
-use crate::states::{read, write};
+use crate::state_words::{read, write};
 use clause_encoder::Cnf;
 use diagnosis_lister::Step;
 use minimiser::TOTAL_LIMIT;

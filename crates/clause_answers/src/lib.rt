@@ -8,7 +8,7 @@ mod evidence;
 mod finding;
 mod literals;
 mod oracle;
-mod states;
+mod state_words;
 mod weights;
 
 pub use case_search::CaseSearch;

@@ -53,7 +53,7 @@ module _ (rules : Rules) (costs evidence : List ℕ) (literals : List ℤ) (vali
     (parts : length costs ≤ rules.cnf.vars) (known : length evidence ≡ rules.cnf.vars) (within : are_within rules.cnf.vars literals ≡ true) where
   pub none-weighted : (low high : ℕ) (bits : List Bool) (weights : Weights) (assumed : List ℤ) → Weighs rules costs evidence [] weights → high ≤ weights.lower → Refutes rules assumed
       → ((a : Assignment) → Knows a evidence (length evidence) → all_true a literals ≡ true → AreTrue a 0 weights.parts.items (length weights.parts.items)
-          → AreTrue a (length evidence) weights.bounds.items (length weights.bounds.items) → all_true a assumed ≡ true)
+      → AreTrue a (length evidence) weights.bounds.items (length weights.bounds.items) → all_true a assumed ≡ true)
       → NoneFound (record { question = asked rules costs evidence; low = low; high = high; bits = bits }) literals
   none-weighted low high bits weights assumed w less refuted enough others f lo hi =
       let k = carried rules costs evidence literals valid parts known within others ordered f in

@@ -29,7 +29,7 @@ priced-cost a v (c ∷ costs) [] same h = absurd (omega arith)
 priced-cost a v (c ∷ costs) (b ∷ bits) same h =
     let own : a v ≡ b = (let none : v + 0 ≡ v = omega arith in ap a (sym none) ∙ same 0 (omega arith)) in
     let others : false_weight a (priced (v + 1) costs) ≡ cost costs bits = priced-cost a (v + 1) costs bits
-        (λ i lt. (let next : (v + 1) + i ≡ v + suc i = omega arith in ap a next ∙ same (suc i) (omega (arith, lt)))) (omega arith) in
+    (λ i lt. (let next : (v + 1) + i ≡ v + suc i = omega arith in ap a next ∙ same (suc i) (omega (arith, lt)))) (omega arith) in
     each b own others
   where
     each : (bit : Bool) → a v ≡ bit → false_weight a (priced (v + 1) costs) ≡ cost costs bits

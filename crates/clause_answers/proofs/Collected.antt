@@ -1,5 +1,6 @@
 -- What a core adds to the least cost.
-use Rattle.std.proofs.Common.{◌≡◌, ℕ, zero, suc, ◌+◌, ◌-◌, ◌*◌, ◌<◌, ◌≤◌, true, false, List, [], ◌∷◌, ◌++◌, length, get_or, take, ℤ, refl, arith}
+use Rattle.std.proofs.Common.{◌≡◌, ℕ, zero, suc, ◌+◌, ◌-◌, ◌*◌, ◌<◌, ◌≤◌, true, false, List, [], ◌∷◌, ◌++◌, length, get_or, take, ℤ, refl, sym, ◌∙◌, arith}
+use Rattle.std.proofs.lemmas.List.{take_more, take_all}
 use Rattle.std.proofs.lemmas.List.Folds.{list_all_more}
 use Rattle.state_rules.specs.Assignments.{Assignment}
 use Rattle.clause_search.specs.declared.weighted.Weighted.{Weighted}
@@ -32,3 +33,17 @@ some-given a core i n d l h is t before f = grind (arith, list_all_more (holds a
 pub some-moved : (a : Assignment) (core : List ℤ) (i n m : ℕ) (d l : ℤ) → i < length core → l ≡ get_or core i d → m ≡ n + unit_if_false a l → (all_true a (take i core) ≡ false → 1 ≤ n)
     → all_true a (take (i + 1) core) ≡ false → 1 ≤ m
 some-moved a core i n m d l h is e before f = grind (arith, list_all_more (holds a) core i d h, before)
+
+-- ---- equal members
+
+same-member : (m n : Weighted) → m.literal ≡ n.literal → m.weight ≡ n.weight → m ≡ n
+same-member m n e f = λ i. record { literal = e i; weight = f i }
+
+pub same-more : (xs ys : List Weighted) (i : ℕ) (d : Weighted) → i < length xs → i < length ys → take i xs ≡ take i ys → (get_or xs i d).literal ≡ (get_or ys i d).literal → (get_or xs i d).weight ≡ (get_or ys i d).weight
+    → take (i + 1) xs ≡ take (i + 1) ys
+same-more xs ys i d h k e f g = take_more xs i d h ∙ (λ j. e j ++ same-member (get_or xs i d) (get_or ys i d) f g j ∷ []) ∙ sym (take_more ys i d k)
+
+pub same-all : (xs ys : List Weighted) (i : ℕ) → take i xs ≡ take i ys → length xs ≤ i → length ys ≤ i → xs ≡ ys
+same-all xs ys i e h k = sym (take_all i xs h) ∙ e ∙ take_all i ys k
+
+pub ruleset same_steps = (same-more, same-all)

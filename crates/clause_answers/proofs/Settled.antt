@@ -6,11 +6,11 @@ use Rattle.state_rules.specs.Bits.{same_bit}
 use Rattle.state_rules.specs.Assignments.{Assignment}
 use Rattle.clause_search.specs.declared.weighted.Weighted.{Weighted}
 use Rattle.clause_search.specs.Searching.{Rules, all_true, false_weight, keeps, respects, priced, Refutes}
+use Rattle.clause_search.proofs.Defined.{respects_at}
 use Rattle.clause_answers.specs.declared.weights.Weights.{Weights}
 use Rattle.clause_answers.specs.inner.Known.{Knows, AreTrue}
 use Rattle.clause_answers.specs.inner.Weighing.{spread, weighed, Weighs, IsFresh, Grown}
 use Rattle.clause_answers.specs.inner.Carrying.{first_two}
-use Rattle.clause_answers.proofs.Spread.{respects-at}
 
 parts-settled : (a : Assignment) (v i : ℕ) (weights : List ℕ) → false_weight a (priced v weights) ≡ 0 → i < length weights → 0 < get_or weights i 0 → a (v + i) ≡ true
 parts-settled a v i [] e h p = absurd (omega arith)
@@ -47,7 +47,7 @@ module _ (rules : Rules) (costs evidence : List ℕ) (weights : Weights) (even :
       let none : spread a rules.members rules.limits weights.bounds.items ≡ 0 = omega (arith, w.below a kept known refl) in
       let same : (rules.cnf.vars + 1) + i ≡ rules.cnf.vars + i + 1 = omega arith in
       let r : respects a (rules.cnf.vars + 1) rules.members rules.limits ≡ true = grind arith in
-      let bit = rw same at (respects-at a (rules.cnf.vars + 1) i rules.members rules.limits r (omega (arith, w.short, lt)) (omega (arith, w.short, lt))) in
+      let bit = rw same at (respects_at a (rules.cnf.vars + 1) i rules.members rules.limits r (omega (arith, w.short, lt)) (omega (arith, w.short, lt))) in
       let zero_ = none-above _ _ _ (spread-term a i rules.members rules.limits weights.bounds.items even (omega (arith, w.short, lt)) lt) none p in
       below-limit _ _ _ bit zero_
 
@@ -96,7 +96,7 @@ module _ (rules : Rules) (costs : List ℕ) (a : Assignment) (even : length rule
       let f = first-at rules.members costs first in
       let r : respects a (rules.cnf.vars + 1) rules.members rules.limits ≡ true = grind arith in
       let same : (rules.cnf.vars + 1) + 0 ≡ rules.cnf.vars + 1 = omega arith in
-      let bit = rw (same, f.1) at (respects-at a (rules.cnf.vars + 1) 0 rules.members rules.limits r (omega (arith, f.0)) (omega (arith, f.0))) in
+      let bit = rw (same, f.1) at (respects_at a (rules.cnf.vars + 1) 0 rules.members rules.limits r (omega (arith, f.0)) (omega (arith, f.0))) in
       subst (λ (x : ℕ). same_bit (a (x + 1)) (nat_le (false_weight a (priced 1 costs)) most) ≡ true) (sym e)
       (subst (λ (y : ℕ). same_bit (a (rules.cnf.vars + 1)) (nat_le (false_weight a (priced 1 costs)) y) ≡ true) m bit)
 
@@ -105,6 +105,6 @@ module _ (rules : Rules) (costs : List ℕ) (a : Assignment) (even : length rule
       let f = first-at rules.members costs first in
       let r : respects a (rules.cnf.vars + 1) rules.members rules.limits ≡ true = grind arith in
       let same : (rules.cnf.vars + 1) + 1 ≡ rules.cnf.vars + 2 = omega arith in
-      let bit = rw (same, f.2) at (respects-at a (rules.cnf.vars + 1) 1 rules.members rules.limits r (omega (arith, f.0)) (omega (arith, f.0))) in
+      let bit = rw (same, f.2) at (respects_at a (rules.cnf.vars + 1) 1 rules.members rules.limits r (omega (arith, f.0)) (omega (arith, f.0))) in
       subst (λ (x : ℕ). same_bit (a (x + 2)) (nat_le (false_weight a (priced 1 costs)) less) ≡ true) (sym e)
       (subst (λ (y : ℕ). same_bit (a (rules.cnf.vars + 2)) (nat_le (false_weight a (priced 1 costs)) y) ≡ true) l bit)

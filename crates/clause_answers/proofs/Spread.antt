@@ -7,6 +7,7 @@ use Rattle.state_rules.specs.Bits.{same_bit}
 use Rattle.state_rules.specs.Assignments.{Assignment}
 use Rattle.clause_search.specs.declared.weighted.Weighted.{Weighted}
 use Rattle.clause_search.specs.Searching.{Rules, holds, false_weight, respects, keeps, priced}
+use Rattle.clause_search.proofs.Defined.{respects_at, respects_less}
 use Rattle.clause_answers.specs.inner.Weighing.{unit_if_false, spread, Grown}
 
 -- a weight of 0 more
@@ -43,12 +44,6 @@ spread-more a (n ∷ members) [] weights m k w e h = absurd (omega arith)
 spread-more a (n ∷ members) (l ∷ limits) [] m k w e h = absurd (omega arith)
 spread-more a (n ∷ members) (l ∷ limits) (x ∷ weights) m k w e h = omega (arith, spread-more a members limits weights m k w (omega arith) (omega arith))
 
-respects-less : (a : Assignment) (v : ℕ) (members : List (List Weighted)) (limits : List ℕ) (m : List Weighted) (n : ℕ) → respects a v (members ++ m ∷ []) (limits ++ n ∷ []) ≡ true
-    → respects a v members limits ≡ true
-respects-less a v [] limits m n e = refl
-respects-less a v (h ∷ members) [] m n e = refl
-respects-less a v (h ∷ members) (k ∷ limits) m n e = grind (arith, respects-less a (v + 1) members limits m n)
-
 first-two : (members : List (List Weighted)) (m : List Weighted) → 2 ≤ length members → take 2 (members ++ m ∷ []) ≡ take 2 members
 first-two [] m h = absurd (omega arith)
 first-two (x ∷ []) m h = absurd (omega arith)
@@ -68,7 +63,7 @@ grown-more rules new m k even e = record {
   cnf = ap (λ (r : Rules). r.cnf) e;
   more = omega (arith, ap (λ (r : Rules). length r.members) e, length-append rules.members (m ∷ []));
   first = λ h. ap (λ (r : Rules). take 2 r.members) e ∙ first-two rules.members m h;
-  kept = λ a h. grind (arith, h, respects-less a (rules.cnf.vars + 1) rules.members rules.limits m k);
+  kept = λ a h. grind (arith, h, respects_less a (rules.cnf.vars + 1) rules.members rules.limits m k);
   spread_ = λ a weights h. ap (λ (r : Rules). spread a r.members r.limits weights) e ∙ spread-grown a rules.members rules.limits weights m k even h;
 }
 
@@ -97,12 +92,13 @@ spread-at a zero m (x ∷ members) (n ∷ limits) (w ∷ weights) e h k g = each
     each d = let whole : (w - m) + m ≡ w = omega arith in grind (arith, whole)
 spread-at a (suc i) m (x ∷ members) (n ∷ limits) (w ∷ weights) e h k g = omega (arith, spread-at a i m members limits weights (omega arith) (omega arith) (omega arith) g)
 
-pub respects-at : (a : Assignment) (v i : ℕ) (members : List (List Weighted)) (limits : List ℕ) → respects a v members limits ≡ true → i < length members → i < length limits
-    → same_bit (a (v + i)) (nat_le (false_weight a (get_or members i [])) (get_or limits i 0)) ≡ true
-respects-at a v i [] limits e h k = absurd (omega arith)
-respects-at a v i (m ∷ members) [] e h k = absurd (omega arith)
-respects-at a v zero (m ∷ members) (n ∷ limits) e h k = let same : v + 0 ≡ v = omega arith in grind arith
-respects-at a v (suc i) (m ∷ members) (n ∷ limits) e h k = let same : v + suc i ≡ (v + 1) + i = omega arith in grind (arith, respects-at a (v + 1) i members limits)
+pub spread-added : (a : Assignment) (i m : ℕ) (members : List (List Weighted)) (limits weights : List ℕ) → length limits ≡ length members → i < length members → i < length weights
+    → spread a members limits (set weights i (get_or weights i 0 + m)) ≡ spread a members limits weights + m * (false_weight a (get_or members i []) - get_or limits i 0)
+spread-added a i m [] limits weights e h k = absurd (omega arith)
+spread-added a i m (x ∷ members) [] weights e h k = absurd (omega arith)
+spread-added a i m (x ∷ members) (n ∷ limits) [] e h k = absurd (omega arith)
+spread-added a zero m (x ∷ members) (n ∷ limits) (w ∷ weights) e h k = omega arith
+spread-added a (suc i) m (x ∷ members) (n ∷ limits) (w ∷ weights) e h k = omega (arith, spread-added a i m members limits weights (omega arith) (omega arith) (omega arith))
 
 -- what is above a limit is what is above the next one, and 1 if it is above
 above : (m n k : ℕ) (b : Bool) → same_bit b (nat_le n k) ≡ true → m * (n - k) ≡ m * (n - (k + 1)) + m * (if b then 0 else 1)
@@ -116,7 +112,7 @@ pub bound-lessened : (a : Assignment) (rules : Rules) (i m : ℕ) (weights : Lis
 bound-lessened a rules i m weights l k even is short h g =
     let same : (rules.cnf.vars + 1) + i ≡ rules.cnf.vars + i + 1 = omega arith in
     let r : respects a (rules.cnf.vars + 1) rules.members rules.limits ≡ true = grind arith in
-    let bit = rw same at (respects-at a (rules.cnf.vars + 1) i rules.members rules.limits r (omega arith) (omega arith)) in
+    let bit = rw same at (respects_at a (rules.cnf.vars + 1) i rules.members rules.limits r (omega arith) (omega arith)) in
     let both = above m (false_weight a (get_or rules.members i [])) (get_or rules.limits i 0) (a (rules.cnf.vars + i + 1)) bit in
     let all = spread-at a i m rules.members rules.limits weights even (omega arith) h g in
     rw is (omega (arith, both, all))

@@ -10,7 +10,12 @@ use clause_search::{Answer, Search};
 
 // Assumes what is known, each literal with a weight, and some others. The order is always the same, so that a search need not begin anew.
 #[tactic(auto, using(crate::proofs::KnownLiterals::assume_steps))]
-pub(crate) fn assume(assumed: &mut Vec<i32>, evidence: &Evidence, weights: &Weights, literals: &[i32])
+pub(crate) fn assume(
+    assumed: &mut Vec<i32>,
+    evidence: &Evidence,
+    weights: &Weights,
+    literals: &[i32],
+)
     requires parts { length weights.now.parts.items ≤ length evidence.now }
     requires few { length evidence.now + length weights.now.bounds.items < 2 ^ 31 }
     requires room { length evidence.now + length literals.now ≤ vec_capacity assumed.old }
@@ -25,14 +30,24 @@ pub(crate) fn assume(assumed: &mut Vec<i32>, evidence: &Evidence, weights: &Weig
     assumed.clear();
     add_all(assumed, evidence.literals());
     add_weighted(assumed, 0, &weights.parts, literals.len());
-    add_weighted(assumed, evidence.words().len(), &weights.bounds, literals.len());
+    add_weighted(
+        assumed,
+        evidence.words().len(),
+        &weights.bounds,
+        literals.len(),
+    );
     add_all(assumed, literals);
 }
 
 // Assumes what is known, that the parts cost at most the limit of the first definition, above that of the second one if there is to be one
 // above, and some others.
 #[tactic(auto, using(crate::proofs::KnownLiterals::assume_steps))]
-pub(crate) fn assume_range(assumed: &mut Vec<i32>, evidence: &Evidence, is_above: bool, literals: &[i32])
+pub(crate) fn assume_range(
+    assumed: &mut Vec<i32>,
+    evidence: &Evidence,
+    is_above: bool,
+    literals: &[i32],
+)
     requires few { length evidence.now + 2 < 2 ^ 31 }
     requires room { length evidence.now + 2 + length literals.now ≤ vec_capacity assumed.old }
     ensures known { (a : Assignment) → all_true a assumed.new.items ≡ true → Knows a evidence.now (length evidence.now) }

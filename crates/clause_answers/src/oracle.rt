@@ -21,6 +21,7 @@ use std::mem;
 
 // How many weights of definitions there is memory for, and when it is time to begin anew.
 const DEFINITIONS: usize = 1024;
+
 const MANY: usize = 768;
 
 /// A search for bits of all variables that agree with evidence, make all clauses true, and cost little. Only `new` takes memory.
@@ -272,7 +273,12 @@ impl Oracle {
         if self.weights.lower < self.high || DEFINITIONS < self.weights.bounds.len() {
             return None;
         }
-        assume(&mut self.room.assumed, &self.evidence, &self.weights, literals);
+        assume(
+            &mut self.room.assumed,
+            &self.evidence,
+            &self.weights,
+            literals,
+        );
         if !meet(&mut self.search, self.room.assumed.as_slice()) {
             return Some(false);
         }
@@ -295,9 +301,20 @@ impl Oracle {
         ensures low { self.new.low ≡ self.old.low }
         ensures high { self.new.high ≡ self.old.high }
     {
-        bound(&mut self.search, &mut self.weights, &self.costs, self.high, self.low.saturating_sub(1));
+        bound(
+            &mut self.search,
+            &mut self.weights,
+            &self.costs,
+            self.high,
+            self.low.saturating_sub(1),
+        );
         let _ = self.search.definitions();
-        assume_range(&mut self.room.assumed, &self.evidence, self.low != 0, literals);
+        assume_range(
+            &mut self.room.assumed,
+            &self.evidence,
+            self.low != 0,
+            literals,
+        );
         if !meet(&mut self.search, self.room.assumed.as_slice()) {
             return false;
         }

@@ -1,4 +1,4 @@
-ghost use Rattle.std.specs.Prelude.{◌≡◌, ℕ, ◌+◌, ◌-◌, ◌*◌, ◌<◌, ◌≤◌, ℤ, List, true, false, IfOk, length, slice_index_or, slice_set, vec_len, vec_capacity};
+ghost use Rattle.std.specs.Prelude.{◌≡◌, ℕ, ◌+◌, ◌-◌, ◌*◌, ◌<◌, ◌≤◌, ℤ, List, [], true, false, IfOk, IfSome, length, slice_index_or, slice_set, vec_len, vec_capacity};
 ghost use Rattle.state_rules.specs.Assignments.{Assignment};
 ghost use Rattle.clause_search.specs.Searching.{holds, false_weight, keeps, all_true, all_vars};
 ghost use Rattle.clause_search.specs.declared.weighted.Weighted.{Weighted};
@@ -52,7 +52,13 @@ fn pad(bounds: &mut Vec<u32>, definitions: usize)
 
 // Defines one more variable, with a weight.
 #[tactic(auto, using(crate::proofs::Spread::grow_steps))]
-fn enlist(search: &mut Search, bounds: &mut Vec<u32>, members: &[Weighted], limit: u32, weight: u32) -> bool
+fn enlist(
+    search: &mut Search,
+    bounds: &mut Vec<u32>,
+    members: &[Weighted],
+    limit: u32,
+    weight: u32,
+) -> bool
     requires { length bounds.old.items ≤ length search.old.rules.members }
     ensures grown { Grown search.old.rules search.new.rules }
     ensures short { length bounds.new.items ≤ length search.new.rules.members }
@@ -106,7 +112,52 @@ fn lessen_bound(
     if spare.len() <= limit as usize + 1 {
         return true;
     }
-    enlist(search, bounds, spare.as_slice(), limit + 1, amount)
+    match place_of_definition(search, spare.as_slice(), limit + 1) {
+        Some(next) => give(bounds, next, amount),
+        None => enlist(search, bounds, spare.as_slice(), limit + 1, amount),
+    }
+}
+
+// Adds an amount to a weight if there is one.
+fn give(weights: &mut Vec<u32>, place: usize, amount: u32) -> bool
+    ensures within { result ≡ true → place < length weights.old.items }
+    ensures given { result ≡ true → weights.new.items ≡ slice_set weights.old.items place (slice_index_or weights.old.items place 0 + amount) }
+    ensures len { length weights.new.items ≡ length weights.old.items }
+{
+    if weights.len() <= place || u32::MAX - weights[place] < amount {
+        return false;
+    }
+    weights[place] += amount;
+    true
+}
+
+// Finds a definition with these members and this limit.
+fn place_of_definition(search: &Search, members: &[Weighted], limit: u32) -> Option<usize>
+    ensures within { IfSome result (λ at. at < length search.now.rules.members) }
+    ensures members { IfSome result (λ at. slice_index_or search.now.rules.members at [] ≡ members.now) }
+    ensures limit { IfSome result (λ at. slice_index_or search.now.rules.limits at 0 ≡ limit) }
+{
+    for at in 0..search.definitions() {
+        if search.limit(at) == limit && are_same(search.members(at), members) {
+            return Some(at);
+        }
+    }
+    None
+}
+
+#[tactic(auto, using(crate::proofs::Collected::same_steps))]
+fn are_same(members: &[Weighted], others: &[Weighted]) -> bool
+    ensures { result ≡ true → members.now ≡ others.now }
+{
+    if members.len() != others.len() {
+        return false;
+    }
+    for at in 0..members.len() {
+        if members[at].literal != others[at].literal || members[at].weight != others[at].weight {
+            return false;
+        }
+    }
+    true
 }
 
 // Takes an amount from the weight of a literal.
@@ -230,7 +281,13 @@ pub(crate) fn are_given(evidence: &Evidence, literals: &[i32], core: &[i32]) -> 
 }
 
 // The least weight of the literals of a core that are not given.
-pub(crate) fn least_weight(weights: &Weights, evidence: &Evidence, literals: &[i32], vars: usize, core: &[i32]) -> u32 {
+pub(crate) fn least_weight(
+    weights: &Weights,
+    evidence: &Evidence,
+    literals: &[i32],
+    vars: usize,
+    core: &[i32],
+) -> u32 {
     let mut least = u32::MAX;
     for literal in core {
         if !is_given(evidence, literals, *literal) {
@@ -268,10 +325,15 @@ fn collect(
         if is_given(evidence, literals, *literal) {
             continue;
         }
-        if !lessen(search, weights, spare, vars, *literal, amount) || moved.capacity() <= moved.len() {
+        if !lessen(search, weights, spare, vars, *literal, amount)
+            || moved.capacity() <= moved.len()
+        {
             return false;
         }
-        moved.push_reserved(Weighted { literal: *literal, weight: 1 });
+        moved.push_reserved(Weighted {
+            literal: *literal,
+            weight: 1,
+        });
     }
     true
 }
@@ -297,7 +359,10 @@ pub(crate) fn raise(
     ensures raised { result ≡ true → (a : Assignment) → keeps search.new.rules a ≡ true → Knows a evidence.now (length evidence.now) → all_true a literals.now ≡ true
         → all_true a core.now ≡ false → weighed search.new.rules weights.new a ≤ weighed search.old.rules weights.old a }
 {
-    if !collect(search, weights, spare, moved, evidence, literals, core, amount) || u32::MAX - weights.lower < amount {
+    if !collect(
+        search, weights, spare, moved, evidence, literals, core, amount,
+    ) || u32::MAX - weights.lower < amount
+    {
         return false;
     }
     weights.lower += amount;

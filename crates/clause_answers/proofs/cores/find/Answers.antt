@@ -9,8 +9,8 @@ pub solve-requires : goal.solve-requires
 solve-requires c =
     let same : c.loop-turn.search.rules.cnf.vars ≡ c.args.search.now.rules.cnf.vars = ap (λ (cnf : ClauseList). cnf.vars) c.loop-turn.invariant.grown.cnf in
     rw c.as_slice.ensures.value (c.assume.ensures.within (all_vars c.loop-turn.search.rules)
-        (omega (arith, c.loop-turn.invariant.weighs.short, c.requires.vars))
-        (within-more (length c.args.evidence.now) (all_vars c.loop-turn.search.rules) c.args.literals.now (omega (arith, c.requires.vars)) c.requires.within))
+    (omega (arith, c.loop-turn.invariant.weighs.short, c.requires.vars))
+    (within-more (length c.args.evidence.now) (all_vars c.loop-turn.search.rules) c.args.literals.now (omega (arith, c.requires.vars)) c.requires.within))
 
 pub returns-then-bits_cost-weights-clause-reached : goal.returns-then-bits_cost-weights-clause-reached
 returns-then-bits_cost-weights-clause-reached c = λ _.

@@ -19,8 +19,8 @@ meet-requires c =
     let inv = c.self.invariant in
     let within = subst (λ (q : Asked). are_within q.question.cnf.vars c.args.literals.now ≡ true) (sym c.self.view_is) c.requires.within in
     rw c.as_slice.ensures.value (c.assume.ensures.within (all_vars c.self.inside.search.rules)
-        (omega (arith, inv.weighs.short, inv.known))
-        (within-more c.self.inside.search.rules.cnf.vars (all_vars c.self.inside.search.rules) c.args.literals.now (omega arith) within))
+    (omega (arith, inv.weighs.short, inv.known))
+    (within-more c.self.inside.search.rules.cnf.vars (all_vars c.self.inside.search.rules) c.args.literals.now (omega arith) within))
 
 pub returns-then-not-meet-clause-none : goal.returns-then-not-meet-clause-none
 returns-then-not-meet-clause-none c = λ _.

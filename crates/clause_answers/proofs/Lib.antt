@@ -10,3 +10,4 @@ pub mod Prefix
 pub mod Completing
 pub mod Lists
 pub mod StateWords
+pub mod Kept

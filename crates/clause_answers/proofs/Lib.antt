@@ -10,3 +10,6 @@ pub mod Prefix
 pub mod Completing
 pub mod Lists
 pub mod StateWords
+pub mod Kept
+pub mod Probes
+pub mod Blames

@@ -5,7 +5,7 @@ ghost use Rattle.conditioner.specs.Evidence.{bits_of};
 ghost use Rattle.conditioner.specs.Models.{total_cost};
 ghost use Rattle.diagnosis_lister.specs.Listing.{step_of};
 ghost use Rattle.clause_answers.specs.Questions.{Question, models, least_under, diagnoses_under};
-ghost use Rattle.clause_answers.specs.inner.Listed.{FindsNext};
+ghost use Rattle.clause_answers.specs.inner.Listed.{FindsNext, AreOk};
 
 use crate::Memory;
 use crate::finding::{first_state, next_state};
@@ -90,6 +90,7 @@ impl CaseSearch {
     }
 
     /// Returns the least cost of a state that agrees with the evidence, if there is one.
+    #[tactic(auto, using(crate::proofs::Kept::least_steps))]
     pub fn least(&mut self) -> Option<u32>
         ensures least { result ≡ least_under self.old }
         ensures same { self.new ≡ self.old }
@@ -97,27 +98,10 @@ impl CaseSearch {
         if let Some(least) = self.least {
             return least;
         }
+        let _parts = self.oracle.costs();
         let least = self.oracle.minimum(&[]);
         self.least = Some(least);
         least
-    }
-
-    // Looks at the states of a cost alone.
-    fn aim(&mut self, cost: u32)
-        ensures { self.new ≡ self.old }
-    {
-        if self.oracle.range() == (cost, cost) {
-            return;
-        }
-        self.oks.as_mut_slice().fill(false);
-        self.tried.as_mut_slice().fill(false);
-        if let Some(Some(least)) = self.least {
-            if least == cost {
-                // What this finds out about costs makes the questions fast.
-                let _least = self.oracle.minimum(&[]);
-            }
-        }
-        self.oracle.seek(cost, cost);
     }
 
     /// Finds the first state of a cost after a point, or the first of all. The state stays if there is none.
@@ -128,18 +112,44 @@ impl CaseSearch {
         ensures words { All (λ s. s < 2) state.old → All (λ s. s < 2) state.new }
         ensures same { self.new ≡ self.old }
     {
-        self.aim(cost);
-        let found = match point {
-            None => first_state(&mut self.oracle, &mut self.oks, &mut self.tried, &mut self.literals),
-            Some(point) => {
-                read(&mut self.literals, point);
-                next_state(&mut self.oracle, &mut self.oks, &mut self.tried, &mut self.literals)
-            }
-        };
-        if found {
-            write(state, &self.literals);
+        match point {
+            None => self.find_first(cost, state),
+            Some(point) => self.find_after(cost, point, state),
         }
-        found
+    }
+
+    // Finds the first state of a cost.
+    #[tactic(auto, using(crate::proofs::Kept::first_steps))]
+    fn find_first(&mut self, cost: u32, state: &mut [u32]) -> bool
+        requires { length state.old ≡ length self.old.costs }
+        ensures found { FindsNext self.old cost None result (bits_of state.old) (bits_of state.new) }
+        ensures words { All (λ s. s < 2) state.old → All (λ s. s < 2) state.new }
+        ensures same { self.new ≡ self.old }
+    {
+        aim(&mut self.oracle, self.least, &mut self.oks, &mut self.tried, cost);
+        if !first_state(&mut self.oracle, &mut self.oks, &mut self.tried, &mut self.literals) {
+            return false;
+        }
+        write(state, &self.literals);
+        true
+    }
+
+    // Finds the first state of a cost after a point.
+    #[tactic(auto, using(crate::proofs::Kept::first_steps))]
+    fn find_after(&mut self, cost: u32, point: &[u32], state: &mut [u32]) -> bool
+        requires state { length state.old ≡ length self.old.costs }
+        requires point { length point.now ≡ length self.old.costs }
+        ensures found { FindsNext self.old cost (Some (bits_of point.now)) result (bits_of state.old) (bits_of state.new) }
+        ensures words { All (λ s. s < 2) state.old → All (λ s. s < 2) state.new }
+        ensures same { self.new ≡ self.old }
+    {
+        aim(&mut self.oracle, self.least, &mut self.oks, &mut self.tried, cost);
+        read(&mut self.literals, point);
+        if !next_state(&mut self.oracle, &mut self.oks, &mut self.tried, &mut self.literals) {
+            return false;
+        }
+        write(state, &self.literals);
+        true
     }
 
     /// Returns the least cost. The state is then the first diagnosis, or as before if there is none.
@@ -150,6 +160,7 @@ impl CaseSearch {
         ensures words { All (λ s. s < 2) state.old → All (λ s. s < 2) state.new }
         ensures same { self.new ≡ self.old }
     {
+        let _parts = self.parts();
         let least = self.least();
         if let Some(cost) = least {
             let _found = self.find_next(cost, None, state);
@@ -167,6 +178,7 @@ impl CaseSearch {
         ensures words { All (λ s. s < 2) state.old → All (λ s. s < 2) state.new }
         ensures same { self.new ≡ self.old }
     {
+        let _parts = self.parts();
         match self.least() {
             None => Step::Inconsistent,
             Some(cost) => {
@@ -178,4 +190,35 @@ impl CaseSearch {
             }
         }
     }
+}
+
+/// Makes a cost alone the range. Marks of parts hold for a range.
+#[tactic(auto, using(crate::proofs::Kept::aim_steps))]
+pub(crate) fn aim(oracle: &mut Oracle, least: Option<Option<u32>>, oks: &mut [bool], tried: &mut [bool], cost: u32)
+    requires oks { AreOk oracle.old.question oracle.old.low oracle.old.high oks.old }
+    ensures oks { AreOk oracle.new.question oracle.new.low oracle.new.high oks.new }
+    ensures low { oracle.new.low ≡ cost }
+    ensures high { oracle.new.high ≡ cost }
+    ensures question { oracle.new.question ≡ oracle.old.question }
+{
+    let (low, high) = oracle.range();
+    if low == cost && high == cost {
+        return;
+    }
+    if least == Some(Some(cost)) {
+        // What this finds out about costs makes the questions fast.
+        let _least = oracle.minimum(&[]);
+    }
+    seek(oracle, oks, tried, cost, cost);
+}
+
+/// Sets the range of costs.
+#[tactic(auto, using(crate::proofs::Kept::aim_steps))]
+pub(crate) fn seek(oracle: &mut Oracle, oks: &mut [bool], tried: &mut [bool], low: u32, high: u32)
+    ensures oks { AreOk oracle.new.question oracle.new.low oracle.new.high oks.new }
+    ensures range { oracle.new ≡ record oracle.old { low = low; high = high } }
+{
+    oks.fill(false);
+    tried.fill(false);
+    oracle.seek(low, high);
 }

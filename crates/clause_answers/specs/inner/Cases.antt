@@ -8,9 +8,9 @@ use Rattle.clause_answers.specs.inner.Listed.{AreOk}
 
 -- There is a mark and a literal for each part. Parts that are marked as ok are ok in all bits in the range. The least cost may be known.
 pub record IsKept (asked : Asked) (oks tried : List Bool) (literals : List ℤ) (least : Option (Option ℕ)) : Type 0 where
-  pub oks : AreOk asked.question asked.low asked.high oks
-  pub oks_long : length oks ≡ length asked.question.costs
-  pub tried_long : length tried ≡ length asked.question.costs
-  pub literals_long : length literals ≡ length asked.question.costs
+  pub right : AreOk asked.question asked.low asked.high oks
+  pub long_oks : length oks ≡ length asked.question.costs
+  pub long_tried : length tried ≡ length asked.question.costs
+  pub long_literals : length literals ≡ length asked.question.costs
   pub few : length asked.question.costs < 2147483648
-  pub least : (known : Option ℕ) → least ≡ Some known → known ≡ least_under asked.question
+  pub known_least : (known : Option ℕ) → least ≡ Some known → known ≡ least_under asked.question

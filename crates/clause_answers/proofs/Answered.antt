@@ -7,7 +7,7 @@ use Rattle.state_rules.specs.Bits.{same_bit}
 use Rattle.state_rules.specs.Assignments.{Assignment, assignment}
 use Rattle.state_rules.specs.Ranking.{cost}
 use Rattle.clause_encoder.specs.Clauses.{ClauseList, is_clause_list}
-use Rattle.clause_search.specs.Searching.{Rules, IsModel, Refutes, all_true, false_weight, keeps, priced, are_within, are_ordered, all_vars}
+use Rattle.clause_search.specs.Searching.{Rules, IsModel, Refutes, all_true, false_weight, keeps, priced, are_within, are_ordered, first_rules}
 use Rattle.conditioner.specs.Models.{total_cost}
 use Rattle.minimiser.specs.declared.pass.TheConstants.{TOTAL_LIMIT}
 use Rattle.minimiser.proofs.Held.{total-drop}
@@ -15,10 +15,10 @@ use Rattle.clause_answers.specs.declared.weights.Weights.{Weights}
 use Rattle.clause_answers.specs.Questions.{Question}
 use Rattle.clause_answers.specs.inner.Known.{Knows, AreTrue}
 use Rattle.clause_answers.specs.inner.Asking.{Asked, Fits, cost_of, IsMinimum, IsLeast, IsFound, NoneFound, Lowered}
-use Rattle.clause_answers.specs.inner.Weighing.{weighed, Weighs, Grown, IsReached}
+use Rattle.clause_answers.specs.inner.Weighing.{Weighs, IsFresh, IsReached}
 use Rattle.clause_answers.specs.inner.Carrying.{asked, first_two, Carried, Cut, IsOracle}
 use Rattle.clause_answers.proofs.CarriedBits.{carried, cut}
-use Rattle.clause_answers.proofs.Settled.{settled-parts, settled-bounds, says-most, says-less}
+use Rattle.clause_answers.proofs.Settled.{weighs-fresh, settled-parts, settled-bounds, says-most, says-less}
 
 pub vars-few : (cnf : ClauseList) → is_clause_list cnf ≡ true → cnf.vars < 536870912
 vars-few cnf e = grind (arith, nat_tests)
@@ -158,3 +158,11 @@ lowered q literals bits high (Some n) total l none = record {
   costs = l.costs;
   bound = λ others f t. elim (cases_lt (cost_of q others) n) [ inl h ↦ absurd (let e = none others f (omega arith) (omega (arith, h, l.next)) in cc) | inr h ↦ h ];
 }
+
+-- What holds of a new oracle.
+pub new-oracle : (rules : Rules) (cnf : ClauseList) (costs evidence items : List ℕ) (weights : Weights) (bits : List Bool) (space : ℕ) → rules ≡ first_rules cnf costs → items ≡ costs → length costs ≤ cnf.vars
+    → total_cost costs < TOTAL_LIMIT → length evidence ≡ cnf.vars → length bits ≡ cnf.vars → IsFresh costs weights → cnf.vars + 2 + cnf.vars ≤ space → IsOracle rules items evidence weights bits space
+new-oracle rules cnf costs evidence items weights bits space r i p t e b f s =
+    subst (λ (x : Rules). IsOracle x items evidence weights bits space) (sym r)
+    (subst (λ (x : List ℕ). IsOracle (first_rules cnf costs) x evidence weights bits space) (sym i)
+    record { parts = p; total = t; known = e; long = b; first = refl; weighs = weighs-fresh (first_rules cnf costs) costs evidence weights f; room = s })

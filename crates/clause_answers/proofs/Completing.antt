@@ -100,8 +100,11 @@ module _ (q : Question) (low high : ℕ) where
 
         by_place : (k : List Bool) → Shows q low high k × (is_before point k ≡ true) → Differs point k → (k ≡ h) ⊎ (is_before h k ≡ true)
         by_place k p d = ⊎_elim
-            (λ (e : d.at ≡ n). is.before k (p.0, below_more (λ i. bit_in k i ≡ bit_in t i) n
-            (λ i g. sym (d.alike i (omega arith)) ∙ sym (same i g)) (ap (bit_in k) (sym e) ∙ (d.ok ∙ sym ok))))
+            (λ (e : d.at ≡ n). is.before k (
+              p.0,
+              below_more (λ i. bit_in k i ≡ bit_in t i) n
+                  (λ i g. sym (d.alike i (omega arith)) ∙ sym (same i g)) (ap (bit_in k) (sym e) ∙ (d.ok ∙ sym ok)),
+            ))
             (⊎_elim
             (λ (l : d.at < n). inr (before-at h k d.at (omega (arith, shows-long h is.meets.0)) (omega (arith, shows-long k p.0))
             (λ i g. front i (omega arith) ∙ d.alike i g) (front d.at l ∙ d.faulty) d.ok))

@@ -11,5 +11,3 @@ pub mod Completing
 pub mod Lists
 pub mod StateWords
 pub mod Kept
-pub mod Probes
-pub mod Blames

@@ -79,7 +79,7 @@ module _ (q : Question) (within : length q.costs ≤ q.cnf.vars) (test : Test) (
       cost_is = m.costs;
     },
     λ k s.
-      let c = model-to q.cnf (length q.costs) test within s.state s.long s.passes in
-      let f = completes-fits s.state c in
-      omega (arith, m.bound c.bits f.0 f.1, ap (cost q.costs) c.begins, s.cost_is),
+        let c = model-to q.cnf (length q.costs) test within s.state s.long s.passes in
+        let f = completes-fits s.state c in
+        omega (arith, m.bound c.bits f.0 f.1, ap (cost q.costs) c.begins, s.cost_is),
   ))

@@ -46,6 +46,7 @@ impl Model for CaseSearch {
 impl CaseSearch {
     /// Makes a search over clauses whose first variables are parts, true if they are ok, each with the cost of its failure. Nothing is known
     /// at first.
+    #[tactic(auto, using(crate::proofs::Kept::few_parts))]
     pub fn new(alloc: Global, cnf: &Cnf, costs: &[u32]) -> Result<CaseSearch, Memory>
         requires parts { length costs.now ≤ cnf.now.vars }
         requires total { total_cost costs.now < TOTAL_LIMIT }
@@ -53,12 +54,17 @@ impl CaseSearch {
     {
         let parts = costs.len();
         let _vars = cnf.vars();
+        let mut oracle = Oracle::new(alloc, cnf, costs)?;
+        let mut oks = vec![in alloc; false; parts]?;
+        let mut tried = vec![in alloc; false; parts]?;
+        let literals = vec![in alloc; 0i32; parts]?;
+        seek(&mut oracle, &mut oks, &mut tried, 0, 0);
         Ok(CaseSearch {
-            oracle: Oracle::new(alloc, cnf, costs)?,
+            oracle,
             least: None,
-            oks: vec![in alloc; false; parts]?,
-            tried: vec![in alloc; false; parts]?,
-            literals: vec![in alloc; 0i32; parts]?,
+            oks,
+            tried,
+            literals,
         })
     }
 
@@ -126,8 +132,19 @@ impl CaseSearch {
         ensures words { All (λ s. s < 2) state.old → All (λ s. s < 2) state.new }
         ensures same { self.new ≡ self.old }
     {
-        aim(&mut self.oracle, self.least, &mut self.oks, &mut self.tried, cost);
-        if !first_state(&mut self.oracle, &mut self.oks, &mut self.tried, &mut self.literals) {
+        aim(
+            &mut self.oracle,
+            self.least,
+            &mut self.oks,
+            &mut self.tried,
+            cost,
+        );
+        if !first_state(
+            &mut self.oracle,
+            &mut self.oks,
+            &mut self.tried,
+            &mut self.literals,
+        ) {
             return false;
         }
         write(state, &self.literals);
@@ -143,9 +160,20 @@ impl CaseSearch {
         ensures words { All (λ s. s < 2) state.old → All (λ s. s < 2) state.new }
         ensures same { self.new ≡ self.old }
     {
-        aim(&mut self.oracle, self.least, &mut self.oks, &mut self.tried, cost);
+        aim(
+            &mut self.oracle,
+            self.least,
+            &mut self.oks,
+            &mut self.tried,
+            cost,
+        );
         read(&mut self.literals, point);
-        if !next_state(&mut self.oracle, &mut self.oks, &mut self.tried, &mut self.literals) {
+        if !next_state(
+            &mut self.oracle,
+            &mut self.oks,
+            &mut self.tried,
+            &mut self.literals,
+        ) {
             return false;
         }
         write(state, &self.literals);
@@ -194,7 +222,13 @@ impl CaseSearch {
 
 /// Makes a cost alone the range. Marks of parts hold for a range.
 #[tactic(auto, using(crate::proofs::Kept::aim_steps))]
-pub(crate) fn aim(oracle: &mut Oracle, least: Option<Option<u32>>, oks: &mut [bool], tried: &mut [bool], cost: u32)
+pub(crate) fn aim(
+    oracle: &mut Oracle,
+    least: Option<Option<u32>>,
+    oks: &mut [bool],
+    tried: &mut [bool],
+    cost: u32,
+)
     requires oks { AreOk oracle.old.question oracle.old.low oracle.old.high oks.old }
     ensures oks { AreOk oracle.new.question oracle.new.low oracle.new.high oks.new }
     ensures low { oracle.new.low ≡ cost }

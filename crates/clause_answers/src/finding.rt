@@ -166,7 +166,12 @@ pub(crate) fn complete(
 }
 
 /// Finds the first state in the range. Returns whether there is one; the literals then say it.
-pub(crate) fn first_state(oracle: &mut Oracle, oks: &mut [bool], tried: &mut [bool], literals: &mut [i32]) -> bool
+pub(crate) fn first_state(
+    oracle: &mut Oracle,
+    oks: &mut [bool],
+    tried: &mut [bool],
+    literals: &mut [i32],
+) -> bool
     requires long { length literals.old ≡ length oracle.old.question.costs }
     requires few { length literals.old < 2 ^ 31 }
     requires oks { AreOk oracle.old.question oracle.old.low oracle.old.high oks.old }
@@ -185,7 +190,12 @@ pub(crate) fn first_state(oracle: &mut Oracle, oks: &mut [bool], tried: &mut [bo
 }
 
 /// Finds the first state in the range that comes after the one that the literals say. Returns whether there is one; the literals then say it.
-pub(crate) fn next_state(oracle: &mut Oracle, oks: &mut [bool], tried: &mut [bool], literals: &mut [i32]) -> bool
+pub(crate) fn next_state(
+    oracle: &mut Oracle,
+    oks: &mut [bool],
+    tried: &mut [bool],
+    literals: &mut [i32],
+) -> bool
     requires long { length literals.old ≡ length oracle.old.question.costs }
     requires few { length literals.old < 2 ^ 31 }
     requires ordered { AreOrdered literals.old (length literals.old) }

@@ -50,23 +50,20 @@ fn pad(bounds: &mut Vec<u32>, definitions: usize)
     }
 }
 
-// Defines one more variable, with a weight.
+// Gives a weight to the definition that has these members and this limit, or to a new one.
 #[tactic(auto, using(crate::proofs::Spread::grow_steps))]
-fn enlist(
-    search: &mut Search,
-    bounds: &mut Vec<u32>,
-    members: &[Weighted],
-    limit: u32,
-    weight: u32,
-) -> bool
+fn charge(search: &mut Search, bounds: &mut Vec<u32>, members: &[Weighted], limit: u32, weight: u32) -> bool
     requires { length bounds.old.items ≤ length search.old.rules.members }
     ensures grown { Grown search.old.rules search.new.rules }
     ensures short { length bounds.new.items ≤ length search.new.rules.members }
-    ensures enlisted { result ≡ true → (a : Assignment) → spread a search.new.rules.members search.new.rules.limits bounds.new.items
+    ensures charged { result ≡ true → (a : Assignment) → spread a search.new.rules.members search.new.rules.limits bounds.new.items
         ≡ spread a search.old.rules.members search.old.rules.limits bounds.old.items + weight * (false_weight a members.now - limit) }
 {
     let definitions = search.definitions();
     pad(bounds, definitions);
+    if let Some(place) = place_of_definition(search, members, limit) {
+        return give(bounds, place, weight);
+    }
     if bounds.len() != definitions || bounds.capacity() <= bounds.len() {
         return false;
     }
@@ -112,10 +109,7 @@ fn lessen_bound(
     if spare.len() <= limit as usize + 1 {
         return true;
     }
-    match place_of_definition(search, spare.as_slice(), limit + 1) {
-        Some(next) => give(bounds, next, amount),
-        None => enlist(search, bounds, spare.as_slice(), limit + 1, amount),
-    }
+    charge(search, bounds, spare.as_slice(), limit + 1, amount)
 }
 
 // Adds an amount to a weight if there is one.
@@ -369,5 +363,5 @@ pub(crate) fn raise(
     if moved.len() <= 1 {
         return true;
     }
-    enlist(search, &mut weights.bounds, moved.as_slice(), 1, amount)
+    charge(search, &mut weights.bounds, moved.as_slice(), 1, amount)
 }

@@ -7,7 +7,7 @@ use Rattle.clause_answers.proofs.finding.complete.Goals as goal
 pub loop-place-preserved : goal.loop-place-preserved
 loop-place-preserved c =
     let reach = reach-more c.args.oracle.now.question c.args.oracle.now.low c.args.oracle.now.high c.args.from (signs c.args.literals.now) (signs c.loop-place.literals) (signs c.fix.new.literals) c.loop-place.place
-        c.loop-place.invariant.reach c.fix.ensures.kept (rw c.loop-place.invariant.same at c.fix.ensures.least) in
+    c.loop-place.invariant.reach c.fix.ensures.kept (rw c.loop-place.invariant.same at c.fix.ensures.least) in
     grind arith
 
 pub returns-clause-first : goal.returns-clause-first

@@ -19,7 +19,7 @@ loop-place-preserved c =
     let long : length (signs c.args.literals.now) ≡ length c.args.oracle.now.question.costs = length-signs c.args.literals.now ∙ c.requires.long in
     let ok : bit_in (signs c.args.literals.now) n ≡ true = grind (arith, said c.loop-place.literals n, c.loop-place.invariant.alike n) in
     let none = none-back c.args.oracle.now.question c.args.oracle.now.low c.args.oracle.now.high c.costs-parts.ensures.parts (signs c.args.literals.now) long n (omega (arith, c.loop-place.invariant.within))
-        (rw next at c.loop-place.invariant.none) (λ e b meets alike f. let no : true ≡ false = sym ok ∙ e in cc) in
+    (rw next at c.loop-place.invariant.none) (λ e b meets alike f. let no : true ≡ false = sym ok ∙ e in cc) in
     grind arith
 
 pub loop-place-preserved-else-find : goal.loop-place-preserved-else-find
@@ -28,9 +28,9 @@ loop-place-preserved-else-find c =
     let next : c.loop-place.place ≡ n + 1 = omega arith in
     let long : length (signs c.args.literals.now) ≡ length c.args.oracle.now.question.costs = length-signs c.args.literals.now ∙ c.requires.long in
     let none = none-back c.args.oracle.now.question c.args.oracle.now.low c.args.oracle.now.high c.costs-parts.ensures.parts (signs c.args.literals.now) long n (omega (arith, c.loop-place.invariant.within))
-        (rw next at c.loop-place.invariant.none) (λ e b meets alike f.
-        (rw c.loop-place.invariant.same at c.find.ensures.none) c.if-find.false b meets (below_more (λ i. bit_in b i ≡ bit_in (signs c.put.new.literals) i) n
-        (λ i lt. alike i lt ∙ sym (c.put.ensures.front i lt ∙ c.loop-place.invariant.alike i (omega arith))) (f ∙ sym c.put.ensures.bit))) in
+    (rw next at c.loop-place.invariant.none) (λ e b meets alike f.
+    (rw c.loop-place.invariant.same at c.find.ensures.none) c.if-find.false b meets (below_more (λ i. bit_in b i ≡ bit_in (signs c.put.new.literals) i) n
+    (λ i lt. alike i lt ∙ sym (c.put.ensures.front i lt ∙ c.loop-place.invariant.alike i (omega arith))) (f ∙ sym c.put.ensures.bit))) in
     grind arith
 
 pub returns-then-find-clause-first : goal.returns-then-find-clause-first

@@ -17,53 +17,6 @@ use Rattle.clause_answers.specs.inner.Reported.{Seen, AllHave, Notes, Settles, n
 use Rattle.clause_answers.proofs.Completing.{shows-bit}
 use Rattle.clause_answers.proofs.Lists.{diagnosis-in, diagnosis-out}
 
-module _ (q : Question) (low high : ℕ) where
-  first-notes : (b : List Bool) → Meets q low high b → (part : ℕ) (ok : Bool) → bit_in b part ≡ ok → Notes q low high part (noted Inconsistent ok)
-  first-notes b m part true e = record { bits = b; meets = m; has = e }
-  first-notes b m part false e = record { bits = b; meets = m; has = e }
-
-  more-notes : (b : List Bool) → Meets q low high b → (part : ℕ) (v : Blame) (ok : Bool) → bit_in b part ≡ ok → Notes q low high part v → Notes q low high part (noted v ok)
-  more-notes b m part Always true e s = (s, record { bits = b; meets = m; has = e })
-  more-notes b m part Always false e s = s
-  more-notes b m part Sometimes ok e s = s
-  more-notes b m part Never true e s = s
-  more-notes b m part Never false e s = (record { bits = b; meets = m; has = e }, s)
-  more-notes b m part Inconsistent ok e s = absurd s
-
-  more-settles : (part : ℕ) (v : Blame) (ok : Bool) → Settles q low high part v → Settles q low high part (noted v ok)
-  more-settles part Always true s = _
-  more-settles part Always false s = s
-  more-settles part Sometimes ok s = s
-  more-settles part Never true s = s
-  more-settles part Never false s = _
-  more-settles part Inconsistent ok s = absurd s
-
-  abbrev at : List Blame → ℕ → Blame
-  at verdicts i = get_or verdicts i Inconsistent
-
-  -- the first bits are noted
-  pub begun : (b : List Bool) (old new : List Blame) → Meets q low high b → length new ≡ length old → ((i : ℕ) → i < length old → at old i ≡ Inconsistent)
-      → ((i : ℕ) → i < length old → at new i ≡ noted (at old i) (bit_in b i)) → AreNoted q low high new
-  begun b old new m long none note i lt =
-      let few : i < length old = omega arith in
-      subst (λ v. Notes q low high i v) (sym (note i few ∙ ap (λ v. noted v (bit_in b i)) (none i few))) (first-notes b m i (bit_in b i) refl)
-
-  -- and more
-  pub noted-more : (b : List Bool) (old new : List Blame) → Meets q low high b → length new ≡ length old → AreNoted q low high old
-      → ((i : ℕ) → i < length old → at new i ≡ noted (at old i) (bit_in b i)) → AreNoted q low high new
-  noted-more b old new m long notes note i lt =
-      let few : i < length old = omega arith in
-      subst (λ v. Notes q low high i v) (sym (note i few)) (more-notes b m i (at old i) (bit_in b i) refl (notes i few))
-
-  pub settled-more : (b : List Bool) (old new : List Blame) (n : ℕ) → n ≤ length old → AreSettled q low high old n
-      → ((i : ℕ) → i < length old → at new i ≡ noted (at old i) (bit_in b i)) → AreSettled q low high new n
-  settled-more b old new n le s note i lt =
-      subst (λ v. Settles q low high i v) (sym (note i (omega arith))) (more-settles i (at old i) (bit_in b i) (s i lt))
-
-  -- one more verdict is settled
-  pub settled-next : (verdicts : List Blame) (n : ℕ) (v : Blame) → AreSettled q low high verdicts n → at verdicts n ≡ v → Settles q low high n v → AreSettled q low high verdicts (n + 1)
-  settled-next verdicts n v s e here = below_more (λ i. Settles q low high i (at verdicts i)) n s (subst (λ k. Settles q low high n k) (sym e) here)
-
 module _ (q : Question) (within : length q.costs ≤ q.cnf.vars) where
   -- the verdicts without a diagnosis
   pub none-blamed : (verdicts : List Blame) → verdicts ≡ replicate (length q.costs) Inconsistent → diagnoses_under q ≡ [] → (part : ℕ) → part < length q.costs

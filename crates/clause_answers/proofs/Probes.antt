@@ -1,13 +1,24 @@
 -- The least cost if a variable has a bit, and what bits of the least cost show.
-use Rattle.std.proofs.Common.{◌≡◌, ℕ, ◌+◌, ◌-◌, ◌<◌, ◌≤◌, Bool, true, false, ◌&&◌, List, [], ◌∷◌, length, Option, Some, None, ℤ, sym, ap, ◌∙◌, arith}
+use Rattle.std.proofs.Common.{◌≡◌, ℕ, ◌+◌, ◌-◌, ◌<◌, ◌≤◌, Bool, true, false, ◌&&◌, List, [], ◌∷◌, length, take, Option, Some, None, ℤ, refl, sym, ap, ◌∙◌, arith}
+use Rattle.std.specs.Prelude.{unwrap_or}
 use Rattle.state_rules.specs.Bits.{bit_in, same_bit}
 use Rattle.state_rules.specs.Assignments.{assignment}
-use Rattle.conditioner.specs.Models.{fits_evidence}
-use Rattle.clause_search.specs.Searching.{all_true, are_within}
+use Rattle.state_rules.proofs.Bits.{same_bit-refl}
+use Rattle.clause_encoder.specs.Clauses.{literal}
+use Rattle.conditioner.specs.Models.{fits_evidence, total_cost}
+use Rattle.minimiser.specs.Stored.{cost_in}
+use Rattle.minimiser.proofs.Sums.{cost_in-some}
+use Rattle.clause_search.specs.Searching.{all_true}
 use Rattle.clause_answers.specs.Questions.{Question, least_with}
 use Rattle.clause_answers.specs.inner.Asking.{Fits, cost_of, IsLeast, IsMinimum}
+use Rattle.clause_answers.specs.inner.Reported.{IsRight}
+use Rattle.clause_answers.proofs.Answered.{cost-total}
 use Rattle.clause_answers.proofs.Prefix.{Says, one-true}
 use Rattle.clause_answers.proofs.States.{minimum-least}
+
+says-bit : (place : ℕ) (bit : Bool) → Says (literal bit (place + 1)) place bit
+says-bit place true a = grind arith
+says-bit place false a = grind arith
 
 -- the least cost with one literal is that with a bit of its variable
 pub with-is : (q : Question) (place : ℕ) (bit : Bool) (l : ℤ) (bits : List Bool) (r : Option ℕ) → length q.costs ≤ q.cnf.vars → Says l place bit
@@ -17,6 +28,21 @@ with-is q place bit l bits r within says m =
     minimum-least q within (λ b. fits_evidence q.evidence b && same_bit bit (bit_in b (place + 1 - 1))) (l ∷ [])
     (λ b. ap (λ (t : Bool). fits_evidence q.evidence b && t) (ap (λ (i : ℕ). same_bit bit (bit_in b i)) back ∙ sym (one-true l place bit b says))) bits r m
 
-pub minimum-fits : (q : Question) (literals : List ℤ) (bits : List Bool) (r : Option ℕ) → IsMinimum q literals bits r → (n : ℕ) → r ≡ Some n → Fits q bits × (cost_of q bits ≡ n)
-minimum-fits q literals bits None m n e = absurd (cc)
-minimum-fits q literals bits (Some k) m n e = (m.fits, m.costs ∙ grind arith)
+-- a cost is not the greatest number
+pub cost-number : (q : Question) (bits : List Bool) (n : ℕ) → total_cost q.costs < 2147483647 → cost_of q bits ≡ n → cost_in n ≡ Some n
+cost-number q bits n total e = cost_in-some n (λ g. absurd (omega (arith, total, e, g, cost-total q.costs (take (length q.costs) bits))))
+
+-- the number of an answer
+pub number-right : (q : Question) (place : ℕ) (bit : Bool) (bits : List Bool) (r : Option ℕ) → total_cost q.costs < 2147483647 → r ≡ least_with q (place + 1) bit
+    → ((n : ℕ) → r ≡ Some n → cost_of q bits ≡ n) → IsRight q place bit (unwrap_or r 4294967295)
+number-right q place bit bits None total e found = e
+number-right q place bit bits (Some n) total e found = cost-number q bits n total (found n refl) ∙ e
+
+-- what bits of the least cost show
+pub shown-right : (q : Question) (bits : List Bool) (n : ℕ) → length q.costs ≤ q.cnf.vars → total_cost q.costs < 2147483647 → Fits q bits → cost_of q bits ≡ n
+    → ((b : List Bool) → Fits q b → n ≤ cost_of q b) → (place : ℕ) (bit : Bool) → bit_in bits place ≡ bit → IsRight q place bit n
+shown-right q bits n within total f e least place bit has =
+    let l : ℤ = literal bit (place + 1) in
+    let says : Says l place bit = says-bit place bit in
+    cost-number q bits n total e
+    ∙ with-is q place bit l bits (Some n) within says (record { fits = f; true_ = one-true l place bit bits says ∙ ap (same_bit bit) has ∙ same_bit-refl bit; costs = e; bound = λ b g t. least b g })

@@ -1,6 +1,7 @@
 -- The least cost if a variable has a bit, and what bits of the least cost show.
-use Rattle.std.proofs.Common.{◌≡◌, ℕ, ◌+◌, ◌-◌, ◌<◌, ◌≤◌, Bool, true, false, ◌&&◌, List, [], ◌∷◌, length, take, Option, Some, None, ℤ, refl, sym, ap, ◌∙◌, arith}
-use Rattle.std.specs.Prelude.{unwrap_or}
+use Rattle.std.proofs.Common.{◌≡◌, ℕ, ◌+◌, ◌-◌, ◌<◌, ◌≤◌, Bool, true, false, ◌&&◌, List, [], ◌∷◌, length, take, get_or, replicate, Option, Some, None, ℤ, not, cond, refl, sym, ap, ◌∙◌, inl, inr, arith}
+use Rattle.std.specs.Prelude.{◌⊎◌, unwrap_or}
+use Rattle.std.proofs.lemmas.List.{get_or-replicate}
 use Rattle.state_rules.specs.Bits.{bit_in, same_bit}
 use Rattle.state_rules.specs.Assignments.{assignment}
 use Rattle.state_rules.proofs.Bits.{same_bit-refl}
@@ -46,3 +47,28 @@ shown-right q bits n within total f e least place bit has =
     let says : Says l place bit = says-bit place bit in
     cost-number q bits n total e
     ∙ with-is q place bit l bits (Some n) within says (record { fits = f; true_ = one-true l place bit bits says ∙ ap (same_bit bit) has ∙ same_bit-refl bit; costs = e; bound = λ b g t. least b g })
+
+-- if no bits fit
+pub none-right : (q : Question) (bits : List Bool) → length q.costs ≤ q.cnf.vars → IsMinimum q [] bits None → (numbers : List ℕ) (n place i : ℕ) (bit : Bool) → numbers ≡ replicate n 4294967295 → i < n
+    → IsRight q place bit (get_or numbers i 0)
+none-right q bits within none numbers n place i bit all lt =
+    ap cost_in (ap (λ k. get_or k i 0) all ∙ get_or-replicate n i 4294967295 0 lt)
+    ∙ with-is q place bit (literal bit (place + 1)) bits None within (says-bit place bit) (λ b f. absurd (let no : true ≡ false = none b f in cc))
+
+module _ (q : Question) (bits : List Bool) (n : ℕ) (within : length q.costs ≤ q.cnf.vars) (total : total_cost q.costs < 2147483647) (f : Fits q bits) (e : cost_of q bits ≡ n)
+    (least : (b : List Bool) → Fits q b → n ≤ cost_of q b) where
+  pub noted-list : (place : ℕ) (bit : Bool) (old new : ℕ) → new ≡ cond (same_bit bit (bit_in bits place)) n old → (new ≡ old) ⊎ IsRight q place bit new
+  noted-list place bit old new is = by_bits bit (bit_in bits place) refl is where
+    by_bits : (x y : Bool) → bit_in bits place ≡ y → new ≡ cond (same_bit x y) n old → (new ≡ old) ⊎ IsRight q place x new
+    by_bits true true has k = inr (ap cost_in k ∙ shown-right q bits n within total f e least place true has)
+    by_bits true false has k = inl k
+    by_bits false true has k = inl k
+    by_bits false false has k = inr (ap cost_in k ∙ shown-right q bits n within total f e least place false has)
+
+  pub noted-other : (place : ℕ) (bit : Bool) (old new : ℕ) → new ≡ cond (same_bit bit (bit_in bits place)) old n → (new ≡ old) ⊎ IsRight q place (not bit) new
+  noted-other place bit old new is = by_bits bit (bit_in bits place) refl is where
+    by_bits : (x y : Bool) → bit_in bits place ≡ y → new ≡ cond (same_bit x y) old n → (new ≡ old) ⊎ IsRight q place (not x) new
+    by_bits true true has k = inl k
+    by_bits true false has k = inr (ap cost_in k ∙ shown-right q bits n within total f e least place false has)
+    by_bits false true has k = inr (ap cost_in k ∙ shown-right q bits n within total f e least place true has)
+    by_bits false false has k = inl k

@@ -6,6 +6,6 @@ abbrev pub invariant-loop-wire : goal.invariant-loop-wire
 invariant-loop-wire l = record {
   same : l.oracle ≡ record l.fn.oracle { bits = l.oracle.bits };
   right : AreRight l.fn.oracle.question l.bit l.list l.wire;
-  open : AreOpen l.fn.oracle.question l.bit l.list;
+  unknown : AreOpen l.fn.oracle.question l.bit l.list;
   others : AreKept l.fn.oracle.question (not l.bit) l.fn.other l.other;
 }

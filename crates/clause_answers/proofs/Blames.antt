@@ -1,7 +1,7 @@
 -- Verdicts on parts, from bits that were met.
-use Rattle.std.proofs.Common.{◌≡◌, ℕ, ◌+◌, ◌<◌, ◌≤◌, Bool, true, false, not, List, [], length, take, get_or, replicate, map, Some, None, refl, sym, ap, ◌∙◌, subst, arith, below_more}
+use Rattle.std.proofs.Common.{◌≡◌, ℕ, ◌<◌, ◌≤◌, Bool, true, false, not, List, [], length, take, get_or, replicate, map, Some, None, refl, sym, ap, ◌∙◌, arith}
 use Rattle.std.specs.Prelude.{slice_get}
-use Rattle.std.proofs.lemmas.List.{get_or-take, get_or-replicate, length-replicate}
+use Rattle.std.proofs.lemmas.List.{get_or-replicate, length-replicate}
 use Rattle.std.proofs.lemmas.Option.{slice_get-get_or}
 use Rattle.state_rules.specs.Bits.{bit_in}
 use Rattle.state_rules.proofs.Members.{In}
@@ -12,8 +12,8 @@ use Rattle.probe_report.proofs.Blames.{verdict-never, verdict-always, verdict-so
 use Rattle.minimiser.proofs.Models.{least-none}
 use Rattle.state_rules.proofs.Members.{empty-none}
 use Rattle.clause_answers.specs.Questions.{Question, models, least_under, diagnoses_under, blame_of}
-use Rattle.clause_answers.specs.inner.Listed.{Meets, Shows}
-use Rattle.clause_answers.specs.inner.Reported.{Seen, AllHave, Notes, Settles, noted, AreNoted, AreSettled}
+use Rattle.clause_answers.specs.inner.Listed.{Meets}
+use Rattle.clause_answers.specs.inner.Reported.{Seen, AllHave, Notes, Settles, AreNoted, AreSettled}
 use Rattle.clause_answers.proofs.Completing.{shows-bit}
 use Rattle.clause_answers.proofs.Lists.{diagnosis-in, diagnosis-out}
 

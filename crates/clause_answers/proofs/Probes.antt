@@ -3,15 +3,13 @@ use Rattle.std.proofs.Common.{◌≡◌, ℕ, ◌+◌, ◌-◌, ◌<◌, ◌≤�
 use Rattle.std.specs.Prelude.{◌⊎◌, unwrap_or}
 use Rattle.std.proofs.lemmas.List.{get_or-replicate}
 use Rattle.state_rules.specs.Bits.{bit_in, same_bit}
-use Rattle.state_rules.specs.Assignments.{assignment}
 use Rattle.state_rules.proofs.Bits.{same_bit-refl}
 use Rattle.clause_encoder.specs.Clauses.{literal}
 use Rattle.conditioner.specs.Models.{fits_evidence, total_cost}
 use Rattle.minimiser.specs.Stored.{cost_in}
 use Rattle.minimiser.proofs.Sums.{cost_in-some}
-use Rattle.clause_search.specs.Searching.{all_true}
 use Rattle.clause_answers.specs.Questions.{Question, least_with}
-use Rattle.clause_answers.specs.inner.Asking.{Fits, cost_of, IsLeast, IsMinimum}
+use Rattle.clause_answers.specs.inner.Asking.{Fits, cost_of, IsMinimum}
 use Rattle.clause_answers.specs.inner.Reported.{IsRight}
 use Rattle.clause_answers.proofs.Answered.{cost-total}
 use Rattle.clause_answers.proofs.Prefix.{Says, one-true}

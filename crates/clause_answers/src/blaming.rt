@@ -19,7 +19,13 @@ impl CaseSearch {
         let _parts = self.parts();
         verdicts.fill(Blame::Inconsistent);
         if let Some(cost) = self.least() {
-            aim(&mut self.oracle, self.least, &mut self.oks, &mut self.tried, cost);
+            aim(
+                &mut self.oracle,
+                self.least,
+                &mut self.oks,
+                &mut self.tried,
+                cost,
+            );
             if find(&mut self.oracle, &self.literals, 0) {
                 note(verdicts, self.oracle.bits());
                 settle(&mut self.oracle, &mut self.oks, verdicts);

@@ -90,7 +90,14 @@ fn probe_list(oracle: &mut Oracle, least: u32, bit: bool, list: &mut [u32], othe
 }
 
 // Computes the number of one wire, if it is not known. Notes what a state of the least cost shows of the others.
-fn probe_wire(oracle: &mut Oracle, least: u32, bit: bool, list: &mut [u32], other: &mut [u32], wire: usize)
+fn probe_wire(
+    oracle: &mut Oracle,
+    least: u32,
+    bit: bool,
+    list: &mut [u32],
+    other: &mut [u32],
+    wire: usize,
+)
     requires wire { wire < length list.old }
     requires wires { length oracle.old.question.costs + length list.old ≤ oracle.old.question.cnf.vars }
     requires other { length other.old ≡ length list.old }

@@ -1,4 +1,4 @@
-use Rattle.std.proofs.Common.{◌≡◌, ℕ, get_or, set, ◌∙◌, sym, ap, refl, arith, below_more}
+use Rattle.std.proofs.Common.{◌≡◌, ℕ, get_or, set, ◌∙◌, arith, below_more}
 use Rattle.std.proofs.lemmas.List.{get_or-set_same, get_or-set_other, get_or_default}
 use Rattle.state_rules.specs.Bits.{bit_in}
 use Rattle.probe_report.specs.declared.verdicts.Blame.TheVariants.{Inconsistent}

@@ -1,10 +1,9 @@
-use Rattle.std.proofs.Common.{◌≡◌, ◌+◌, ℕ, Some, length, set, ap, refl, ◌∙◌, inl, inr, ⊎_elim, arith}
+use Rattle.std.proofs.Common.{◌≡◌, ◌+◌, Some, length, ap, ◌∙◌, inl, inr, ⊎_elim, arith}
 use Rattle.std.proofs.Math.ListN.{length-set}
 use Rattle.std.proofs.lemmas.Bool.{cases_eq}
 use Rattle.std.proofs.lemmas.List.{get_or-set_same, get_or-set_other}
 use Rattle.minimiser.specs.Stored.{cost_in}
 use Rattle.clause_answers.specs.inner.Asking.{Fits, cost_of}
-use Rattle.clause_answers.specs.inner.Reported.{IsRight}
 use Rattle.clause_answers.proofs.Probes.{number-right, noted-list, noted-other}
 use Rattle.clause_answers.proofs.probing.probe_wire.Goals as goal
 
@@ -24,7 +23,7 @@ returns-then-eq-clause-right c =
     let fits : Fits q c.bits.result.now = grind (arith, both.0, c.bits.ensures.value) in
     let cost : cost_of q c.bits.result.now ≡ n = grind (arith, both.1, c.bits.ensures.value) in
     let is = number-right q (length q.costs + c.args.wire) c.args.bit c.least_where-found.new.oracle.bits c.least_where-found.result c.costs-parts.ensures.total
-        (grind (arith, c.least_where-found.ensures.least, c.costs-parts.ensures.value)) (λ k e. (c.least_where-found.ensures.found k e).1) in
+    (grind (arith, c.least_where-found.ensures.least, c.costs-parts.ensures.value)) (λ k e. (c.least_where-found.ensures.found k e).1) in
     ⊎_elim
     (λ s. ap cost_in (s ∙ get_or-set_same c.args.list.now c.args.wire c.unwrap_or.result 0 c.requires.wire ∙ c.unwrap_or.ensures) ∙ is)
     (λ r. r)

@@ -1,4 +1,4 @@
-use Rattle.std.proofs.Common.{◌≡◌, ◌+◌, length, replicate, [], None, true, false, sym, arith, rules}
+use Rattle.std.proofs.Common.{◌≡◌, ◌+◌, length, [], None, true, false, arith, rules}
 use Rattle.clause_answers.specs.Questions.{least_under}
 use Rattle.clause_answers.specs.inner.Asking.{IsMinimum}
 use Rattle.clause_answers.proofs.Kept.{least-is}

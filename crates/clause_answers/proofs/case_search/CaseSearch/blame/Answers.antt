@@ -1,6 +1,6 @@
-use Rattle.std.proofs.Common.{◌≡◌, length, [], Some, replicate, sym, refl, ◌∙◌, ap, arith, rules}
+use Rattle.std.proofs.Common.{◌≡◌, length, Some, replicate, arith, rules}
 use Rattle.probe_report.specs.declared.verdicts.Blame.TheVariants.{Inconsistent}
-use Rattle.clause_answers.specs.Questions.{least_under, diagnoses_under}
+use Rattle.clause_answers.specs.Questions.{least_under}
 use Rattle.clause_answers.specs.inner.Reported.{AreNoted, AreSettled}
 use Rattle.clause_answers.proofs.Blames.{none-blamed, none-diagnoses, no-bits, all-blamed}
 use Rattle.clause_answers.proofs.case_search.CaseSearch.blame.Goals as goal

@@ -142,7 +142,7 @@ is-oracle old new costs evidence weights others bits found space more o e f w l 
     }
 
 -- The least of bits that cost less and less.
-cost-total : (costs : List ℕ) (bits : List Bool) → cost costs bits ≤ total_cost costs
+pub cost-total : (costs : List ℕ) (bits : List Bool) → cost costs bits ≤ total_cost costs
 cost-total [] bits = omega arith
 cost-total (c ∷ costs) [] = omega arith
 cost-total (c ∷ costs) (true ∷ bits) = let whole : total_cost (c ∷ costs) ≡ c + total_cost costs = total-drop (c ∷ costs) 0 (omega arith) in omega (arith, cost-total costs bits)

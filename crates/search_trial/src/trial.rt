@@ -25,6 +25,7 @@ pub(crate) struct Trial {
     point: Vec<u32>,
     state: Vec<u32>,
     verdicts: Vec<Blame>,
+    numbers: Vec<u32>,
     levels: u32,
     replies: Replies,
 }
@@ -39,6 +40,7 @@ impl Trial {
         } = device;
         let many = costs.len();
         let known = vec![in alloc; 0u32; cnf.vars() as usize]?;
+        let numbers = vec![in alloc; 0u32; wires.len().saturating_mul(2)]?;
         if (cnf.vars() as usize) < many || !are_cheap(&costs) {
             return Err(AllocError);
         }
@@ -51,6 +53,7 @@ impl Trial {
             pointed: false,
             point: vec![in alloc; 0u32; many]?,
             state: vec![in alloc; 0u32; many]?,
+            numbers,
             verdicts: vec![in alloc; Blame::Inconsistent; many]?,
             levels,
             replies: Replies::new(alloc),
@@ -124,15 +127,22 @@ impl Trial {
             Line::Level { session } => self.list(session, 1, true),
             Line::Levels { session, count } => self.list(session, count, true),
             Line::After { session, names } => self.go_after(session, names),
+            Line::Probe { session, name } => self.probe_one(session, name),
+            Line::Probes { session } => self.probe_each(session),
+            Line::Blame { session } => self.blame(session),
             _ => self.replies.line(b"S", b"refused"),
         }
     }
 
     // Notes what is known of a wire or a part. The case is another one then.
     fn note(&mut self, session: &[u8], part: bool, name: &[u8], word: u32) -> Result<(), AllocError> {
-        let names = if part { &self.parts } else { &self.wires };
         let first = if part { 0 } else { self.parts.len() };
-        let Some(place) = place_of(names, name) else {
+        let found = if part {
+            place_of(&self.parts, name)
+        } else {
+            place_of(&self.wires, name)
+        };
+        let Some(place) = found else {
             return self.replies.line(session, b"unknown");
         };
         let at = first.saturating_add(place as usize);
@@ -214,17 +224,16 @@ impl Trial {
     fn look(&mut self, levels: bool) -> LevelStep
         requires state { length self.old.state.items ≡ length self.old.search.costs }
         requires point { length self.old.point.items ≡ length self.old.search.costs }
-        requires bits { All (λ s. s < 2) self.old.point.items }
     {
-        let point = if self.pointed {
-            Some(self.point.as_slice())
-        } else {
-            None
-        };
         if levels {
             return LevelStep::End;
         }
-        match self.search.next(point, &mut self.state) {
+        let step = if self.pointed {
+            self.search.next(Some(self.point.as_slice()), &mut self.state)
+        } else {
+            self.search.next(None, &mut self.state)
+        };
+        match step {
             Step::Inconsistent => LevelStep::Inconsistent,
             Step::End => LevelStep::End,
             Step::Found => LevelStep::Found(0),
@@ -243,6 +252,86 @@ impl Trial {
         }
         self.pointed = true;
         self.replies.line(session, b"ok")
+    }
+
+    fn is_seen(&self, wire: usize) -> bool {
+        let at = self.parts.len().saturating_add(wire);
+        at < self.known.len() && self.known[at] != 0
+    }
+
+    // Tells the least costs of all wires that are not seen.
+    fn probe_each(&mut self, session: &[u8]) -> Result<(), AllocError> {
+        let wires = self.wires.len();
+        let vars = self.search.vars();
+        if self.numbers.len() / 2 != wires || self.numbers.len() % 2 != 0 || vars.saturating_sub(self.search.parts()) < wires {
+            return Ok(());
+        }
+        if !self.search.probe_all(&mut self.numbers) {
+            return self.replies.line(session, b"inconsistent");
+        }
+        for wire in 0..wires {
+            if !self.is_seen(wire) {
+                let zero = self.number(wire);
+                let one = self.number(wires.saturating_add(wire));
+                self.put_probe(session, wire, zero, one)?;
+            }
+        }
+        self.replies.line(session, b"end")
+    }
+
+    fn number(&self, at: usize) -> Option<u32> {
+        if self.numbers.len() <= at || self.numbers[at] == u32::MAX {
+            return None;
+        }
+        Some(self.numbers[at])
+    }
+
+    fn put_probe(&mut self, session: &[u8], wire: usize, zero: Option<u32>, one: Option<u32>) -> Result<(), AllocError> {
+        if self.wires.len() <= wire {
+            return Ok(());
+        }
+        self.replies.word(session)?;
+        self.replies.word(b"probe")?;
+        self.replies.word(self.wires[wire].as_slice())?;
+        self.replies.cost(zero)?;
+        self.replies.cost(one)?;
+        self.replies.end()
+    }
+
+    fn tell_probe(&mut self, session: &[u8], wire: usize) -> Result<(), AllocError> {
+        let variable = self.parts.len().saturating_add(wire).saturating_add(1);
+        let Ok(variable) = u32::try_from(variable) else {
+            return Ok(());
+        };
+        if self.search.vars() < variable as usize {
+            return Ok(());
+        }
+        let (zero, one) = self.search.probe(variable);
+        if zero.is_none() && one.is_none() {
+            return self.replies.line(session, b"inconsistent");
+        }
+        self.put_probe(session, wire, zero, one)
+    }
+
+    fn probe_one(&mut self, session: &[u8], name: &[u8]) -> Result<(), AllocError> {
+        let Some(wire) = place_of(&self.wires, name) else {
+            return self.replies.line(session, b"unknown");
+        };
+        self.tell_probe(session, wire as usize)
+    }
+
+    fn blame(&mut self, session: &[u8]) -> Result<(), AllocError> {
+        if self.verdicts.len() != self.search.parts() {
+            return Ok(());
+        }
+        if self.search.least().is_none() {
+            return self.replies.line(session, b"inconsistent");
+        }
+        self.search.blame(&mut self.verdicts);
+        for (part, verdict) in self.parts.iter().zip(self.verdicts.iter()) {
+            self.replies.blame(session, part, *verdict)?;
+        }
+        self.replies.line(session, b"end")
     }
 }
 

@@ -4,6 +4,11 @@ use crate::row::{NONE, Row, code_of};
 use clause_encoder::Cnf;
 use std::alloc::Global;
 
+// How many clauses are learned before the older half goes, and how many more each time after that.
+const FIRST_STRETCH: u32 = 2000;
+
+const LONGER: u32 = 300;
+
 /// The clauses of a search, as codes of literals, the given ones first. Of a clause the first two literals are watched.
 #[derive(Drop)]
 pub(crate) struct Database {
@@ -16,6 +21,10 @@ pub(crate) struct Database {
     // how many clauses and literals can be learned
     clauses: usize,
     literals: usize,
+    // how many clauses were learned and not made, when the older half of them goes, and how many more there may be the next time
+    learned: u32,
+    limit: u32,
+    stretch: u32,
 }
 
 impl Database {
@@ -37,6 +46,9 @@ impl Database {
             given: cnf.len(),
             clauses,
             literals,
+            learned: 0,
+            limit: FIRST_STRETCH,
+            stretch: FIRST_STRETCH,
         };
         database.starts.push(0);
         for at in 0..cnf.len() {
@@ -91,9 +103,11 @@ impl Database {
         }
     }
 
-    /// Whether more than a quarter of the memory for learned clauses is free.
-    pub(crate) fn is_roomy(&self) -> bool {
-        self.clauses / 4 < self.made.room() && self.literals / 4 < self.codes.room()
+    /// Whether learned clauses are to go: there are many, or less than a quarter of the memory is free.
+    pub(crate) fn is_full(&self) -> bool {
+        self.limit <= self.learned
+            || self.made.room() <= self.clauses / 4
+            || self.codes.room() <= self.literals / 4
     }
 
     /// Whether there is memory for another clause of so many literals.
@@ -108,6 +122,9 @@ impl Database {
             self.codes.push(*code);
         }
         self.close(made);
+        if made == 0 {
+            self.learned = self.learned.saturating_add(1);
+        }
         clause
     }
 
@@ -117,18 +134,19 @@ impl Database {
         self.starts.push(self.codes.len());
     }
 
-    // How many of the clauses that were learned, and not made, are to go: the older half if they take more than half of the memory.
-    fn surplus(&self) -> usize {
-        let mut count = 0usize;
+    // How many of the clauses that were learned, and not made, are to go: the older half, or none if they take little.
+    fn surplus(&self) -> u32 {
         let mut literals = 0usize;
         for clause in self.given..self.len() {
             if self.made.at(clause) == 0 {
-                count = count.saturating_add(1);
                 literals = literals.saturating_add(self.size(clause) as usize);
             }
         }
-        if self.clauses / 2 < count || self.literals / 2 < literals {
-            count - count / 2
+        if self.limit <= self.learned
+            || self.clauses / 2 < self.learned as usize
+            || self.literals / 2 < literals
+        {
+            self.learned - self.learned / 2
         } else {
             0
         }
@@ -138,6 +156,7 @@ impl Database {
     pub(crate) fn reduce(&mut self, kept: &mut Vec<bool>) {
         let mut surplus = self.surplus();
         let mut count = self.given;
+        let mut learned = 0u32;
         kept.clear();
         for clause in self.given..self.len() {
             let mut stays = self.size(clause) == 1;
@@ -151,9 +170,15 @@ impl Database {
             if stays {
                 self.move_down(clause, count);
                 count = count.wrapping_add(1);
+                learned = learned.saturating_add(1);
             }
         }
-        self.truncate(count);
+        self.keep(count);
+        if learned < self.learned {
+            self.stretch = self.stretch.saturating_add(LONGER);
+            self.limit = learned.saturating_add(self.stretch);
+        }
+        self.learned = learned;
     }
 
     // Moves a clause down to the place after the `kept` clauses before it.
@@ -167,10 +192,21 @@ impl Database {
         self.starts.put(kept.wrapping_add(1), to);
     }
 
-    /// Keeps so many clauses.
-    pub(crate) fn truncate(&mut self, kept: u32) {
-        self.codes.truncate(self.starts.at(kept));
-        self.starts.truncate(kept.saturating_add(1));
-        self.made.truncate(kept);
+    /// Drops all learned clauses. Returns whether there were some.
+    pub(crate) fn clear(&mut self) -> bool {
+        let is_any = self.given < self.len();
+        self.keep(self.given);
+        self.learned = 0;
+        self.limit = FIRST_STRETCH;
+        self.stretch = FIRST_STRETCH;
+        is_any
+    }
+
+    // Keeps so many clauses.
+    fn keep(&mut self, count: u32) {
+        let end = self.starts.at(count);
+        self.codes.truncate(end);
+        self.starts.truncate(count.saturating_add(1));
+        self.made.truncate(count);
     }
 }

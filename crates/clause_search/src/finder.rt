@@ -63,6 +63,7 @@ impl Finder {
             .saturating_add(2);
         state.define(costs, 0);
         state.define(costs, 0);
+        state.watch_all();
         let empty = state.begin();
         Ok(Finder {
             state,
@@ -114,7 +115,7 @@ impl Finder {
             self.analysis.refute_all(&self.state.database, self.empty);
             return Some(End::Refuted);
         }
-        if !self.state.database.is_roomy() && !self.reduce(kernel) {
+        if self.state.database.is_full() && !self.reduce(kernel) {
             return Some(End::Stopped);
         }
         let conflict = self.state.propagate();

@@ -47,10 +47,8 @@ impl Propagation {
         })
     }
 
-    /// Begins with an empty trail: watches all clauses, and makes the literals of clauses with one literal true. Returns a clause that is false,
-    /// or `NONE`.
+    /// Begins with an empty trail: makes the literals of clauses with one literal true. Returns a clause that is false, or `NONE`.
     pub(crate) fn begin(&mut self) -> u32 {
-        self.watch_all();
         for clause in 0..self.database.len() {
             let size = self.database.size(clause);
             if 1 < size {
@@ -215,8 +213,9 @@ impl Propagation {
     fn clear(&mut self) {
         self.undo_to(0);
         self.trail.end_levels(0);
-        let given = self.database.given();
-        self.database.truncate(given);
+        if self.database.clear() {
+            self.watch_all();
+        }
     }
 
     /// Begins anew, without the clauses that were learned.

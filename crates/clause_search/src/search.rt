@@ -49,10 +49,10 @@ impl Model for Search {
 
 // The memory for a list of clauses.
 fn room_for(cnf: &Cnf) -> Room {
-    let clauses = (cnf.len() as usize).saturating_mul(4).clamp(1024, 8192);
+    let clauses = (cnf.len() as usize).saturating_mul(16).clamp(4096, 32_768);
     Room {
         clauses,
-        literals: clauses.saturating_mul(48),
+        literals: clauses.saturating_mul(64),
         definitions: 1024,
         members: (cnf.vars() as usize)
             .saturating_mul(64)

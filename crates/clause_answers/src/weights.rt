@@ -11,6 +11,9 @@ use crate::literals::place_of;
 use clause_search::{Search, Weighted};
 use std::alloc::Global;
 
+/// For how many weights of definitions there is memory.
+pub(crate) const DEFINITIONS: usize = 1024;
+
 /// Weights of literals, each of which is to be true, and what all bits cost at least.
 #[derive(Drop)]
 pub(crate) struct Weights {

@@ -46,7 +46,7 @@ is-less b false n low e z h = omega (arith, z refl)
 module _ (s : Asked) (rules : Rules) (costs evidence : List ℕ) (literals : List ℤ) (low high : ℕ) (r : Ready s rules costs evidence literals low high) where
   pub none-weighted : (weights : Weights) (assumed : List ℤ) → Weighs rules costs evidence [] weights → high ≤ weights.lower → Refutes rules assumed
       → ((a : Assignment) → Knows a evidence (length evidence) → all_true a literals ≡ true → AreTrue a 0 weights.parts.items (length weights.parts.items)
-          → AreTrue a (length evidence) weights.bounds.items (length weights.bounds.items) → all_true a assumed ≡ true) → NoneFound s literals
+      → AreTrue a (length evidence) weights.bounds.items (length weights.bounds.items) → all_true a assumed ≡ true) → NoneFound s literals
   none-weighted weights assumed w less refuted enough = subst (λ (x : Asked). NoneFound x literals) r.view (λ others f lo hi.
       (let k = carried s rules costs evidence literals low high r others f in
       let cheap : false_weight k.to (priced 1 costs) ≤ weights.lower = omega (arith, k.costs_, hi, less) in

@@ -1,5 +1,5 @@
 -- From bits of the variables of clauses to assignments that keep rules, and back.
-use Rattle.std.proofs.Common.{◌≡◌, ℕ, zero, suc, ◌+◌, ◌-◌, ◌<◌, ◌≤◌, Bool, true, false, if◌then◌else◌, List, [], ◌∷◌, length, get_or, take, ℤ, refl, ap, sym, ◌∙◌, subst, arith}
+use Rattle.std.proofs.Common.{◌≡◌, ℕ, suc, ◌+◌, ◌-◌, ◌<◌, ◌≤◌, Bool, true, false, if◌then◌else◌, List, [], ◌∷◌, length, get_or, take, ℤ, refl, ap, sym, ◌∙◌, subst, arith}
 use Rattle.std.proofs.lemmas.Bool.{and_parts}
 use Rattle.std.proofs.lemmas.List.{get_or-take, length-take-le}
 use Rattle.state_rules.specs.Bits.{bit_in}
@@ -9,9 +9,8 @@ use Rattle.state_rules.specs.Ranking.{cost}
 use Rattle.clause_encoder.specs.Clauses.{ClauseList, is_clause_list}
 use Rattle.clause_encoder.proofs.OtherVariables.{all_hold-same}
 use Rattle.conditioner.specs.Evidence.{known_of}
-use Rattle.conditioner.specs.Models.{fits_evidence}
 use Rattle.conditioner.proofs.FittingEvidence.{fits_evidence-at, fits_evidence-from}
-use Rattle.clause_search.specs.Searching.{Rules, all_true, false_weight, priced, are_within, are_ordered}
+use Rattle.clause_search.specs.Searching.{Rules, false_weight, priced, are_within, are_ordered}
 use Rattle.clause_search.proofs.Extended.{AreAlike, all_true-same, extension, extension-alike, extension-keeps}
 use Rattle.clause_answers.specs.declared.weights.Weights.{Weights}
 use Rattle.clause_answers.specs.inner.Known.{Knows}
@@ -53,7 +52,7 @@ priced-cost a v (c ∷ costs) [] same h = absurd (omega arith)
 priced-cost a v (c ∷ costs) (b ∷ bits) same h =
     let own : a v ≡ b = (let none : v + 0 ≡ v = omega arith in ap a (sym none) ∙ same 0 (omega arith)) in
     let others : false_weight a (priced (v + 1) costs) ≡ cost costs bits = priced-cost a (v + 1) costs bits
-        (λ i lt. (let next : (v + 1) + i ≡ v + suc i = omega arith in ap a next ∙ same (suc i) (omega (arith, lt)))) (omega arith) in
+    (λ i lt. (let next : (v + 1) + i ≡ v + suc i = omega arith in ap a next ∙ same (suc i) (omega (arith, lt)))) (omega arith) in
     ap (λ (bit : Bool). (if bit then 0 else c) + false_weight a (priced (v + 1) costs)) own ∙ each b others
   where
     each : (bit : Bool) → false_weight a (priced (v + 1) costs) ≡ cost costs bits → (if bit then 0 else c) + false_weight a (priced (v + 1) costs) ≡ cost (c ∷ costs) (bit ∷ bits)

@@ -27,15 +27,11 @@ pub(crate) fn assume(
     ensures within { (n : ℕ) → length evidence.now + length weights.now.bounds.items ≤ n → are_within n literals.now ≡ true → are_within n assumed.new.items ≡ true }
     ensures capacity { vec_capacity assumed.old ≤ vec_capacity assumed.new }
 {
+    let vars = evidence.words().len();
     assumed.clear();
     add_all(assumed, evidence.literals());
     add_weighted(assumed, 0, &weights.parts, literals.len());
-    add_weighted(
-        assumed,
-        evidence.words().len(),
-        &weights.bounds,
-        literals.len(),
-    );
+    add_weighted(assumed, vars, &weights.bounds, literals.len());
     add_all(assumed, literals);
 }
 
@@ -58,10 +54,11 @@ pub(crate) fn assume_range(
     ensures within { (n : ℕ) → length evidence.now + 2 ≤ n → are_within n literals.now ≡ true → are_within n assumed.new.items ≡ true }
     ensures capacity { vec_capacity assumed.old ≤ vec_capacity assumed.new }
 {
+    let vars = evidence.words().len();
     assumed.clear();
     add_all(assumed, evidence.literals());
-    add_if(assumed, evidence.words().len(), true, true);
-    add_if(assumed, evidence.words().len() + 1, false, is_above);
+    add_if(assumed, vars, true, true);
+    add_if(assumed, vars + 1, false, is_above);
     add_all(assumed, literals);
 }
 

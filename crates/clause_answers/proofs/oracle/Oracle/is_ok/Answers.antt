@@ -1,4 +1,4 @@
-use Rattle.std.proofs.Common.{◌≡◌, ◌<◌, [], length, get_or, refl, sym, subst, arith}
+use Rattle.std.proofs.Common.{◌<◌, [], length, get_or, refl, sym, subst, arith}
 use Rattle.std.proofs.lemmas.Grind.{common_steps}
 use Rattle.std.proofs.lemmas.Bool.Decides.{nat_tests}
 use Rattle.clause_answers.specs.inner.Asking.{Asked}

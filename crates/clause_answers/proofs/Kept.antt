@@ -1,13 +1,14 @@
 -- What is kept of a case.
-use Rattle.std.proofs.Common.{◌≡◌, ℕ, zero, suc, ◌<◌, ◌≤◌, Bool, true, false, List, [], length, Option, None, replicate, refl, sym, ◌∙◌, subst, arith}
+use Rattle.std.proofs.Common.{◌≡◌, ℕ, zero, suc, ◌<◌, ◌≤◌, Bool, true, false, List, [], length, Option, Some, None, replicate, refl, sym, ap, ◌∙◌, subst, arith}
 use Rattle.std.proofs.lemmas.Bool.Decides.{nat_tests}
 use Rattle.state_rules.specs.Bits.{bit_in}
+use Rattle.state_rules.specs.Assignments.{assignment}
 use Rattle.clause_encoder.specs.Clauses.{ClauseList, is_clause_list}
 use Rattle.conditioner.specs.Models.{fits_evidence}
 use Rattle.clause_answers.specs.Questions.{Question, least_under}
 use Rattle.clause_answers.specs.inner.Asking.{Asked, IsMinimum}
 use Rattle.diagnosis_lister.specs.inner.Fixing.{IsFirst}
-use Rattle.clause_answers.specs.inner.Listed.{Shows, AreOk, FindsNext}
+use Rattle.clause_answers.specs.inner.Listed.{Shows, AreOk, is_after, FindsNext}
 use Rattle.clause_answers.proofs.States.{minimum-least}
 
 no-bit : (n i : ℕ) → bit_in (replicate n false) i ≡ false

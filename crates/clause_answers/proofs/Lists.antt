@@ -1,8 +1,14 @@
 -- The lists of states: diagnoses, and states by rising cost.
-use Rattle.std.proofs.Common.{◌≡◌, ℕ, ◌≤◌, Bool, true, false, List, [], length, get_or, Option, Some, None, refl, sym, ap, ◌∙◌, subst, arith}
-use Rattle.std.proofs.lemmas.Bool.{leb-true, le-leb}
-use Rattle.state_rules.specs.Bits.{lists_of_bits}
+use Rattle.std.proofs.Common.{◌≡◌, ℕ, zero, suc, ◌+◌, ◌<◌, ◌≤◌, Bool, true, false, ◌&&◌, List, [], ◌∷◌, ◌++◌, length, take, get_or, Option, Some, None, refl, sym, ap, ◌∙◌, subst, arith, inl, inr, ⊎_elim}
+use Rattle.std.specs.Prelude.{◌⊎◌, ◌==◌}
+use Rattle.std.specs.List.{filter}
+use Rattle.std.proofs.Math.Bool.{and-true}
+use Rattle.std.proofs.lemmas.Bool.{leb-true, le-leb, eqb-true, eq-eqb}
+use Rattle.std.proofs.lemmas.Bool.Decides.{nat_tests}
+use Rattle.state_rules.specs.Bits.{bit_in, lists_of_bits}
+use Rattle.state_rules.specs.Assignments.{assignment}
 use Rattle.state_rules.specs.Ranking.{Test, cost, least, is_at_most, is_before, rest, states}
+use Rattle.state_rules.specs.Levels.{of_cost, levels, is_level_before, levels_rest}
 use Rattle.state_rules.proofs.Members.{In, In-filter, In-filtered, bits_in, bits_length, empty-none}
 use Rattle.state_rules.proofs.Order.{Sorted, Sorted-states, Sorted-filter, first-sorted}
 use Rattle.node_costs.proofs.States.{least-out}
@@ -10,10 +16,13 @@ use Rattle.conditioner.specs.Models.{fits_evidence}
 use Rattle.minimiser.proofs.Models.{least-none}
 use Rattle.diagnosis_lister.specs.declared.listing.Step.TheVariants.{Found, End, Inconsistent}
 use Rattle.diagnosis_lister.specs.Listing.{step_of}
+use Rattle.diagnosis_lister.specs.inner.Fixing.{IsFirst}
+use Rattle.clause_search.specs.Searching.{all_true}
 use Rattle.clause_answers.specs.Questions.{Question, has_model, models, least_under, diagnoses_under}
-use Rattle.clause_answers.specs.inner.Listed.{Shows, is_after, FindsNext}
+use Rattle.clause_answers.specs.inner.Asking.{Fits}
+use Rattle.clause_answers.specs.inner.Listed.{Meets, Shows, is_after, FindsNext}
 use Rattle.clause_answers.proofs.Completing.{shows-long}
-use Rattle.clause_answers.proofs.States.{model-from, model-to}
+use Rattle.clause_answers.proofs.States.{Completes, model-from, model-to}
 
 module _ (q : Question) (within : length q.costs ≤ q.cnf.vars) where
   abbrev test : Test

@@ -1,18 +1,20 @@
 -- The states of the parts, from bits of all variables.
-use Rattle.std.proofs.Common.{◌≡◌, ℕ, ◌-◌, ◌≤◌, Bool, true, false, ◌&&◌, List, ◌++◌, length, take, drop, Option, Some, None, ℤ, refl, sym, ap, ◌∙◌, subst, arith, length-append, length-drop}
-use Rattle.std.proofs.lemmas.Bool.{and_parts, and_from}
+use Rattle.std.proofs.Common.{◌≡◌, ℕ, ◌-◌, ◌<◌, ◌≤◌, Bool, true, false, ◌&&◌, List, [], ◌∷◌, ◌++◌, length, take, drop, Option, Some, None, ℤ, pos, negsuc, refl, sym, ap, ◌∙◌, subst, arith, length-append, length-drop}
+use Rattle.std.proofs.lemmas.Bool.{and_parts, and_from, leb-true, le-leb}
 use Rattle.std.proofs.lemmas.List.{take-append-drop, length-take-le}
 use Rattle.std.proofs.Math.Seq.{take-append_seam}
-use Rattle.state_rules.specs.Bits.{lists_of_bits}
+use Rattle.state_rules.specs.Bits.{bit_in, same_bit, lists_of_bits}
 use Rattle.state_rules.specs.Assignments.{assignment}
-use Rattle.state_rules.specs.Ranking.{Test, cost, least, passing}
-use Rattle.state_rules.proofs.Members.{In, bits_in, bits_length, any_from, any_in}
-use Rattle.node_costs.proofs.States.{least-in}
-use Rattle.clause_encoder.specs.Clauses.{ClauseList, all_hold}
+use Rattle.state_rules.specs.Ranking.{Test, cost, least, passing, is_at_most, states}
+use Rattle.state_rules.proofs.Members.{In, In-filter, In-filtered, bits_in, bits_length, any_from, any_in}
+use Rattle.node_costs.specs.Costs.{StateCost}
+use Rattle.node_costs.proofs.States.{least-in, least-out}
+use Rattle.clause_encoder.specs.Clauses.{ClauseList, all_hold, literal}
 use Rattle.conditioner.specs.Models.{fits_evidence}
 use Rattle.clause_search.specs.Searching.{all_true}
-use Rattle.clause_answers.specs.Questions.{Question, has_model}
-use Rattle.clause_answers.specs.inner.Asking.{Fits, IsMinimum}
+use Rattle.clause_answers.specs.Questions.{Question, has_model, models, least_under, least_with, diagnoses_under}
+use Rattle.clause_answers.specs.inner.Asking.{Fits, cost_of, IsLeast, IsMinimum}
+use Rattle.clause_answers.specs.inner.Listed.{Meets, Shows}
 
 -- ---- what completes a state
 

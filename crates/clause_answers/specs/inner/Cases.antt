@@ -1,5 +1,7 @@
 -- What is kept of a case while it is asked about.
-use Rattle.std.specs.Prelude.{◌≡◌, ℕ, ◌<◌, Bool, Option, Some, List, length, ℤ}
+use Rattle.std.specs.Prelude.{◌≡◌, ℕ, ◌<◌, ◌≤◌, Bool, Option, Some, List, length, ℤ, All}
+use Rattle.conditioner.specs.Models.{total_cost}
+use Rattle.minimiser.specs.declared.pass.TheConstants.{TOTAL_LIMIT}
 use Rattle.clause_answers.specs.Questions.{least_under}
 use Rattle.clause_answers.specs.inner.Asking.{Asked}
 use Rattle.clause_answers.specs.inner.Listed.{AreOk}

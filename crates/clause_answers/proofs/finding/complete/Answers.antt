@@ -1,4 +1,4 @@
-use Rattle.std.proofs.Common.{◌≡◌, length, ◌∙◌, arith}
+use Rattle.std.proofs.Common.{◌≡◌, length, sym, ◌∙◌, arith}
 use Rattle.clause_answers.specs.inner.Listed.{signs}
 use Rattle.clause_answers.proofs.Completing.{reach-more, reach-first}
 use Rattle.clause_answers.proofs.Prefix.{length-signs}

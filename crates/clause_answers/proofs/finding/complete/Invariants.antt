@@ -1,4 +1,4 @@
-use Rattle.std.proofs.Common.{◌≡◌}
+use Rattle.std.proofs.Common.{◌≡◌, ◌≤◌}
 use Rattle.state_rules.specs.Bits.{AlikeBelow}
 use Rattle.clause_answers.specs.inner.Listed.{Meets, AreOk, AreOrdered, signs}
 use Rattle.clause_answers.proofs.Completing.{Reach}

@@ -1,4 +1,4 @@
-use Rattle.std.proofs.Common.{arith}
+use Rattle.std.proofs.Common.{◌≤◌, length, arith}
 use Rattle.clause_answers.proofs.Prefix.{within-first, alike-first, first-alike}
 use Rattle.clause_answers.proofs.finding.find.Goals as goal
 

@@ -1,6 +1,7 @@
-use Rattle.std.proofs.Common.{◌≡◌, ◌-◌, ◌+◌, ℕ, true, false, length, sym, ◌∙◌, refl, below_more, arith}
-use Rattle.state_rules.specs.Bits.{bit_in}
-use Rattle.clause_answers.specs.inner.Listed.{signs}
+use Rattle.std.proofs.Common.{◌≡◌, ◌-◌, ◌+◌, ◌<◌, ℕ, Bool, true, false, List, length, sym, ◌∙◌, refl, below_more, arith}
+use Rattle.state_rules.specs.Bits.{bit_in, AlikeBelow}
+use Rattle.diagnosis_lister.specs.inner.Fixing.{NoneAfter}
+use Rattle.clause_answers.specs.inner.Listed.{Shows, signs}
 use Rattle.clause_answers.proofs.Completing.{none-start, none-back, leave-first}
 use Rattle.clause_answers.proofs.Prefix.{length-signs, said}
 use Rattle.clause_answers.proofs.finding.next_state.Goals as goal

@@ -1,4 +1,4 @@
-use Rattle.std.proofs.Common.{◌≡◌, ◌∙◌, arith}
+use Rattle.std.proofs.Common.{◌≡◌, ℕ, length, ◌∙◌, sym, arith}
 use Rattle.std.proofs.Common.{below_more}
 use Rattle.state_rules.specs.Bits.{bit_in}
 use Rattle.state_rules.proofs.Order.{same_bits}

@@ -1,4 +1,4 @@
-use Rattle.std.proofs.Common.{true, false, sym}
+use Rattle.std.proofs.Common.{true, false, sym, arith}
 use Rattle.std.specs.Option.{option_map}
 use Rattle.conditioner.specs.Evidence.{bits_of}
 use Rattle.clause_answers.proofs.Lists.{next-state, step-found, step-end, none-state}

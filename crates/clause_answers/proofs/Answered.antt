@@ -127,7 +127,7 @@ new-oracle rules cnf costs evidence items weights bits space r i p t e b f s =
     record { parts = p; total = t; known = e; long = b; first = refl; weighs = weighs-fresh (first_rules cnf costs) costs evidence weights f; room = s })
 
 -- The least of bits that cost less and less.
-cost-total : (costs : List ℕ) (bits : List Bool) → cost costs bits ≤ total_cost costs
+pub cost-total : (costs : List ℕ) (bits : List Bool) → cost costs bits ≤ total_cost costs
 cost-total [] bits = omega arith
 cost-total (c ∷ costs) [] = omega arith
 cost-total (c ∷ costs) (true ∷ bits) = omega (arith, cost-total costs bits, total-drop (c ∷ costs) 0 (omega arith))

@@ -44,7 +44,7 @@ module _ (q : Question) (low high : ℕ) where
     pub shows-long : (h : List Bool) → Shows q low high h → length h ≡ length q.costs
     shows-long h s = ap length (sym s.begins) ∙ length-take-le (length q.costs) s.bits (omega (arith, s.meets.fits.long))
 
-    shows-bit : (h : List Bool) (s : Shows q low high h) (i : ℕ) → i < length q.costs → bit_in h i ≡ bit_in s.bits i
+    pub shows-bit : (h : List Bool) (s : Shows q low high h) (i : ℕ) → i < length q.costs → bit_in h i ≡ bit_in s.bits i
     shows-bit h s i lt = ap (λ k. bit_in k i) (sym s.begins) ∙ get_or-take (length q.costs) s.bits i false lt
 
     pub shown : (b s : List Bool) → Meets q low high b → length s ≡ length q.costs → AlikeBelow (length q.costs) b s → Shows q low high s

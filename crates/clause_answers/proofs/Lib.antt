@@ -11,3 +11,5 @@ pub mod Completing
 pub mod Lists
 pub mod StateWords
 pub mod Kept
+pub mod Probes
+pub mod Blames

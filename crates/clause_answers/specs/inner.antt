@@ -5,3 +5,4 @@ pub mod Weighing
 pub mod Carrying
 pub mod Listed
 pub mod Cases
+pub mod Reported

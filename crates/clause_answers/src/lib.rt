@@ -2,12 +2,14 @@
 #![tactic(auto)]
 
 mod assumed;
+mod blaming;
 mod case_search;
 mod cores;
 mod evidence;
 mod finding;
 mod literals;
 mod oracle;
+mod probing;
 mod state_words;
 mod weights;
 

@@ -1,5 +1,6 @@
 -- The cost of the parts in bits of all variables.
 use Rattle.std.proofs.Common.{◌≡◌, ℕ, zero, suc, ◌+◌, ◌<◌, ◌≤◌, Bool, true, false, if◌then◌else◌, List, [], ◌∷◌, length, get_or, take, drop, refl, ap, arith}
+use Rattle.std.proofs.lemmas.List.{drop_all}
 use Rattle.state_rules.specs.Ranking.{cost}
 use Rattle.minimiser.proofs.Held.{total-drop}
 
@@ -12,21 +13,12 @@ cost-take (c ∷ costs) (false ∷ bits) = ap (λ n. c + n) (cost-take costs bit
 
 pub cost-more : (costs : List ℕ) (bits : List Bool) (i : ℕ) → i < length costs → i < length bits
     → cost (drop i costs) (drop i bits) ≡ (if get_or bits i false then 0 else get_or costs i 0) + cost (drop (i + 1) costs) (drop (i + 1) bits)
-cost-more [] bits i h k = absurd (omega arith)
-cost-more (c ∷ costs) [] i h k = absurd (omega arith)
 cost-more (c ∷ costs) (true ∷ bits) zero h k = grind arith
 cost-more (c ∷ costs) (false ∷ bits) zero h k = grind arith
 cost-more (c ∷ costs) (b ∷ bits) (suc i) h k = grind (arith, cost-more costs bits i)
+cost-more costs bits i h k = absurd (omega arith)
 
 pub cost-end : (costs : List ℕ) (bits : List Bool) (i : ℕ) → length costs ≤ i → cost (drop i costs) (drop i bits) ≡ 0
-cost-end [] bits zero h = refl
-cost-end [] bits (suc i) h = refl
-cost-end (c ∷ costs) bits zero h = absurd (omega arith)
-cost-end (c ∷ costs) [] (suc i) h = none (drop i costs)
-  where
-    none : (costs : List ℕ) → cost costs [] ≡ 0
-    none [] = refl
-    none (c ∷ costs) = refl
-cost-end (c ∷ costs) (b ∷ bits) (suc i) h = cost-end costs bits i (omega arith)
+cost-end costs bits i h = ap (λ cs. cost cs (drop i bits)) (drop_all i costs h)
 
 pub ruleset cost_steps = (cost-take, cost-more, cost-end, total-drop)

@@ -1,16 +1,15 @@
 -- Literals that say what is known of variables.
-use Rattle.std.proofs.Common.{◌≡◌, ℕ, ◌+◌, ◌<◌, ◌≤◌, true, false, ◌&&◌, List, [], ◌∷◌, ◌++◌, length, get_or, ℤ, refl, ap, ◌∙◌, arith, below_more}
-use Rattle.std.proofs.lemmas.Bool.{and_parts, and_from}
+use Rattle.std.proofs.Common.{◌≡◌, ℕ, ◌+◌, ◌<◌, ◌≤◌, true, ◌&&◌, List, [], ◌∷◌, ◌++◌, length, get_or, ℤ, refl, ap, ◌∙◌, arith, below_more}
+use Rattle.std.proofs.lemmas.Bool.{and_parts}
 use Rattle.std.proofs.lemmas.List.Folds.{list_all-append}
 use Rattle.std.proofs.Math.Bool.{and-true}
-use Rattle.std.specs.Prelude.{nat_le}
 use Rattle.state_rules.specs.Assignments.{Assignment}
 use Rattle.state_rules.proofs.Lists.{list_all-at}
 use Rattle.state_rules.specs.Cases.{agrees_at}
 use Rattle.clause_encoder.specs.Clauses.{var_of}
 use Rattle.conditioner.specs.Evidence.{known_of}
 use Rattle.clause_search.specs.Searching.{holds, all_true, is_within, are_within}
-use Rattle.clause_answers.specs.inner.Known.{Knows, IsRead}
+use Rattle.clause_answers.specs.inner.Known.{IsRead}
 
 -- a literal more
 pub all_true-push : (a : Assignment) (literals : List ℤ) (l : ℤ) → all_true a (literals ++ l ∷ []) ≡ (all_true a literals && holds a l)

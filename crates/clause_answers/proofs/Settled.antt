@@ -5,11 +5,11 @@ use Rattle.std.proofs.lemmas.Bool.Decides.{nat_tests}
 use Rattle.state_rules.specs.Bits.{same_bit}
 use Rattle.state_rules.specs.Assignments.{Assignment}
 use Rattle.clause_search.specs.declared.weighted.Weighted.{Weighted}
-use Rattle.clause_search.specs.Searching.{Rules, all_true, false_weight, keeps, respects, priced, Refutes}
+use Rattle.clause_search.specs.Searching.{Rules, false_weight, keeps, respects, priced}
 use Rattle.clause_search.proofs.Defined.{respects_at}
 use Rattle.clause_answers.specs.declared.weights.Weights.{Weights}
 use Rattle.clause_answers.specs.inner.Known.{Knows, AreTrue}
-use Rattle.clause_answers.specs.inner.Weighing.{spread, weighed, Weighs, IsFresh, Grown}
+use Rattle.clause_answers.specs.inner.Weighing.{spread, Weighs, IsFresh, Grown}
 use Rattle.clause_answers.specs.inner.Carrying.{first_two}
 
 parts-settled : (a : Assignment) (v i : ℕ) (weights : List ℕ) → false_weight a (priced v weights) ≡ 0 → i < length weights → 0 < get_or weights i 0 → a (v + i) ≡ true
@@ -19,11 +19,9 @@ parts-settled a v (suc i) (w ∷ weights) e h p = let same : v + suc i ≡ (v + 
 
 spread-term : (a : Assignment) (i : ℕ) (members : List (List Weighted)) (limits weights : List ℕ) → length limits ≡ length members → i < length members → i < length weights
     → get_or weights i 0 * (false_weight a (get_or members i []) - get_or limits i 0) ≤ spread a members limits weights
-spread-term a i [] limits weights e h k = absurd (omega arith)
-spread-term a i (m ∷ members) [] weights e h k = absurd (omega arith)
-spread-term a i (m ∷ members) (n ∷ limits) [] e h k = absurd (omega arith)
 spread-term a zero (m ∷ members) (n ∷ limits) (w ∷ weights) e h k = omega arith
 spread-term a (suc i) (m ∷ members) (n ∷ limits) (w ∷ weights) e h k = omega (arith, spread-term a i members limits weights (omega arith) (omega arith) (omega arith))
+spread-term a i members limits weights e h k = absurd (omega arith)
 
 none-above : (w d s : ℕ) → w * d ≤ s → s ≡ 0 → 0 < w → d ≡ 0
 none-above w zero s h e p = refl
@@ -83,9 +81,8 @@ weighs-copied rules costs evidence literals weights copy w p b l = record {
 
 -- What the first two definitions say of the cost.
 first-at : (members : List (List Weighted)) (costs : List ℕ) → take 2 members ≡ first_two costs → (2 ≤ length members) × (get_or members 0 [] ≡ priced 1 costs) × (get_or members 1 [] ≡ priced 1 costs)
-first-at [] costs e = absurd (cc)
-first-at (x ∷ []) costs e = absurd (cc)
 first-at (x ∷ y ∷ members) costs e = (omega arith, cc, cc)
+first-at members costs e = absurd (cc)
 
 pub first-many : (members : List (List Weighted)) (costs : List ℕ) → take 2 members ≡ first_two costs → 2 ≤ length members
 first-many members costs e = (first-at members costs e).0

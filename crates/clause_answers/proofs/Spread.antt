@@ -28,26 +28,20 @@ pub ruleset pad_steps = (spread-pad)
 pub spread-grown : (a : Assignment) (members : List (List Weighted)) (limits weights : List ℕ) (m : List Weighted) (k : ℕ) → length limits ≡ length members → length weights ≤ length members
     → spread a (members ++ m ∷ []) (limits ++ k ∷ []) weights ≡ spread a members limits weights
 spread-grown a [] [] [] m k e h = refl
-spread-grown a [] [] (w ∷ weights) m k e h = absurd (omega arith)
-spread-grown a [] (n ∷ limits) weights m k e h = absurd (omega arith)
-spread-grown a (n ∷ members) [] weights m k e h = absurd (omega arith)
 spread-grown a (n ∷ members) (l ∷ limits) [] m k e h = refl
 spread-grown a (n ∷ members) (l ∷ limits) (w ∷ weights) m k e h = ap (λ s. w * (false_weight a n - l) + s) (spread-grown a members limits weights m k (omega arith) (omega arith))
+spread-grown a members limits weights m k e h = absurd (omega arith)
 
 -- and with one
 pub spread-more : (a : Assignment) (members : List (List Weighted)) (limits weights : List ℕ) (m : List Weighted) (k w : ℕ) → length limits ≡ length members → length weights ≡ length members
     → spread a (members ++ m ∷ []) (limits ++ k ∷ []) (weights ++ w ∷ []) ≡ spread a members limits weights + w * (false_weight a m - k)
 spread-more a [] [] [] m k w e h = omega arith
-spread-more a [] [] (x ∷ weights) m k w e h = absurd (omega arith)
-spread-more a [] (n ∷ limits) weights m k w e h = absurd (omega arith)
-spread-more a (n ∷ members) [] weights m k w e h = absurd (omega arith)
-spread-more a (n ∷ members) (l ∷ limits) [] m k w e h = absurd (omega arith)
 spread-more a (n ∷ members) (l ∷ limits) (x ∷ weights) m k w e h = omega (arith, spread-more a members limits weights m k w (omega arith) (omega arith))
+spread-more a members limits weights m k w e h = absurd (omega arith)
 
 first-two : (members : List (List Weighted)) (m : List Weighted) → 2 ≤ length members → take 2 (members ++ m ∷ []) ≡ take 2 members
-first-two [] m h = absurd (omega arith)
-first-two (x ∷ []) m h = absurd (omega arith)
 first-two (x ∷ y ∷ members) m h = refl
+first-two members m h = absurd (omega arith)
 
 pub grown-same : (rules new : Rules) → new ≡ rules → Grown rules new
 grown-same rules new e = record {
@@ -83,22 +77,18 @@ part-lessened a i m weights l e h g = let same : 1 + i ≡ i + 1 = omega arith i
 
 spread-at : (a : Assignment) (i m : ℕ) (members : List (List Weighted)) (limits weights : List ℕ) → length limits ≡ length members → i < length members → i < length weights → m ≤ get_or weights i 0
     → spread a members limits (set weights i (get_or weights i 0 - m)) + m * (false_weight a (get_or members i []) - get_or limits i 0) ≡ spread a members limits weights
-spread-at a i m [] limits weights e h k g = absurd (omega arith)
-spread-at a i m (x ∷ members) [] weights e h k g = absurd (omega arith)
-spread-at a i m (x ∷ members) (n ∷ limits) [] e h k g = absurd (omega arith)
 spread-at a zero m (x ∷ members) (n ∷ limits) (w ∷ weights) e h k g = each (false_weight a x - n)
   where
     each : (d : ℕ) → (w - m) * d + spread a members limits weights + m * d ≡ w * d + spread a members limits weights
     each d = let whole : (w - m) + m ≡ w = omega arith in grind (arith, whole)
 spread-at a (suc i) m (x ∷ members) (n ∷ limits) (w ∷ weights) e h k g = omega (arith, spread-at a i m members limits weights (omega arith) (omega arith) (omega arith) g)
+spread-at a i m members limits weights e h k g = absurd (omega arith)
 
 pub spread-added : (a : Assignment) (i m : ℕ) (members : List (List Weighted)) (limits weights : List ℕ) → length limits ≡ length members → i < length members → i < length weights
     → spread a members limits (set weights i (get_or weights i 0 + m)) ≡ spread a members limits weights + m * (false_weight a (get_or members i []) - get_or limits i 0)
-spread-added a i m [] limits weights e h k = absurd (omega arith)
-spread-added a i m (x ∷ members) [] weights e h k = absurd (omega arith)
-spread-added a i m (x ∷ members) (n ∷ limits) [] e h k = absurd (omega arith)
 spread-added a zero m (x ∷ members) (n ∷ limits) (w ∷ weights) e h k = omega arith
 spread-added a (suc i) m (x ∷ members) (n ∷ limits) (w ∷ weights) e h k = omega (arith, spread-added a i m members limits weights (omega arith) (omega arith) (omega arith))
+spread-added a i m members limits weights e h k = absurd (omega arith)
 
 -- what is above a limit is what is above the next one, and 1 if it is above
 above : (m n k : ℕ) (b : Bool) → same_bit b (nat_le n k) ≡ true → m * (n - k) ≡ m * (n - (k + 1)) + m * (if b then 0 else 1)

@@ -17,7 +17,7 @@ pub(crate) fn assume(
     literals: &[i32],
 )
     requires parts { length weights.now.parts.items ≤ length evidence.now }
-    requires few { length evidence.now + length weights.now.bounds.items < 2 ^ 31 }
+    requires few { length weights.now.bounds.items < 2 ^ 30 }
     requires room { length evidence.now + length literals.now ≤ vec_capacity assumed.old }
     ensures known { (a : Assignment) → all_true a assumed.new.items ≡ true → Knows a evidence.now (length evidence.now) }
     ensures others { (a : Assignment) → all_true a assumed.new.items ≡ true → all_true a literals.now ≡ true }
@@ -27,15 +27,11 @@ pub(crate) fn assume(
     ensures within { (n : ℕ) → length evidence.now + length weights.now.bounds.items ≤ n → are_within n literals.now ≡ true → are_within n assumed.new.items ≡ true }
     ensures capacity { vec_capacity assumed.old ≤ vec_capacity assumed.new }
 {
+    let vars = evidence.words().len();
     assumed.clear();
     add_all(assumed, evidence.literals());
     add_weighted(assumed, 0, &weights.parts, literals.len());
-    add_weighted(
-        assumed,
-        evidence.words().len(),
-        &weights.bounds,
-        literals.len(),
-    );
+    add_weighted(assumed, vars, &weights.bounds, literals.len());
     add_all(assumed, literals);
 }
 
@@ -48,7 +44,6 @@ pub(crate) fn assume_range(
     is_above: bool,
     literals: &[i32],
 )
-    requires few { length evidence.now + 2 < 2 ^ 31 }
     requires room { length evidence.now + 2 + length literals.now ≤ vec_capacity assumed.old }
     ensures known { (a : Assignment) → all_true a assumed.new.items ≡ true → Knows a evidence.now (length evidence.now) }
     ensures others { (a : Assignment) → all_true a assumed.new.items ≡ true → all_true a literals.now ≡ true }
@@ -59,21 +54,22 @@ pub(crate) fn assume_range(
     ensures within { (n : ℕ) → length evidence.now + 2 ≤ n → are_within n literals.now ≡ true → are_within n assumed.new.items ≡ true }
     ensures capacity { vec_capacity assumed.old ≤ vec_capacity assumed.new }
 {
+    let vars = evidence.words().len();
     assumed.clear();
     add_all(assumed, evidence.literals());
-    add_if(assumed, evidence.words().len(), true, true);
-    add_if(assumed, evidence.words().len() + 1, false, is_above);
+    add_if(assumed, vars, true, true);
+    add_if(assumed, vars + 1, false, is_above);
     add_all(assumed, literals);
 }
 
 // Whether there are bits that keep the rules of a search and make literals true. If so, it has them as its model.
-pub(crate) fn meet(search: &mut Search, literals: &[i32]) -> bool
-    requires { are_within (all_vars search.old.rules) literals.now ≡ true }
+pub(crate) fn meet(search: &mut Search, literals: &Vec<i32>) -> bool
+    requires { are_within (all_vars search.old.rules) literals.now.items ≡ true }
     ensures rules { search.new.rules ≡ search.old.rules }
-    ensures model { result ≡ true → IsModel search.old.rules literals.now search.new.model }
-    ensures refuted { result ≡ false → Refutes search.old.rules literals.now }
+    ensures model { result ≡ true → IsModel search.old.rules literals.now.items search.new.model }
+    ensures refuted { result ≡ false → Refutes search.old.rules literals.now.items }
 {
-    match search.solve(literals) {
+    match search.solve(literals.as_slice()) {
         Answer::Model => true,
         Answer::Core => false,
         Answer::Conflict => false,

@@ -9,7 +9,7 @@ ghost use Rattle.clause_answers.specs.inner.Weighing.{Weighs, Grown, IsReached};
 use crate::Memory;
 use crate::assumed::assume;
 use crate::evidence::Evidence;
-use crate::weights::{Weights, are_given, least_weight, raise};
+use crate::weights::{DEFINITIONS, Weights, are_given, least_weight, raise};
 use clause_search::{Answer, Search, Weighted};
 use minimiser::TOTAL_LIMIT;
 use std::alloc::Global;
@@ -50,10 +50,10 @@ pub(crate) enum Found {
 
 // The cost of the parts in bits of all variables.
 #[tactic(auto, using(crate::proofs::BitCosts::cost_steps))]
-pub(crate) fn bits_cost(costs: &[u32], bits: &[bool]) -> u32
-    requires total { total_cost costs.now < TOTAL_LIMIT }
-    requires long { length costs.now ≤ length bits.now }
-    ensures { result ≡ cost costs.now (take (length costs.now) bits.now) }
+pub(crate) fn bits_cost(costs: &Vec<u32>, bits: &[bool]) -> u32
+    requires total { total_cost costs.now.items < TOTAL_LIMIT }
+    requires long { length costs.now.items ≤ length bits.now }
+    ensures { result ≡ cost costs.now.items (take (length costs.now.items) bits.now) }
 {
     let mut total = 0;
     for (part, cost) in costs.iter().enumerate() {
@@ -78,25 +78,25 @@ pub(crate) fn find(
     weights: &mut Weights,
     room: &mut Room,
     evidence: &Evidence,
-    costs: &[u32],
+    costs: &Vec<u32>,
     literals: &[i32],
 ) -> Found
     requires vars { length evidence.now ≡ search.old.rules.cnf.vars }
-    requires parts { length costs.now ≤ length evidence.now }
-    requires total { total_cost costs.now < TOTAL_LIMIT }
+    requires parts { length costs.now.items ≤ length evidence.now }
+    requires total { total_cost costs.now.items < TOTAL_LIMIT }
     requires within { are_within (length evidence.now) literals.now ≡ true }
     requires room { length evidence.now + length literals.now ≤ vec_capacity room.old.assumed }
-    requires weighs { Weighs search.old.rules costs.now evidence.now literals.now weights.old }
+    requires weighs { Weighs search.old.rules costs.now.items evidence.now literals.now weights.old }
     ensures grown { Grown search.old.rules search.new.rules }
     ensures room { vec_capacity room.old.assumed ≤ vec_capacity room.new.assumed }
-    ensures weighs { result ≡ Found.Model → Weighs search.new.rules costs.now evidence.now literals.now weights.new }
+    ensures weighs { result ≡ Found.Model → Weighs search.new.rules costs.now.items evidence.now literals.now weights.new }
     ensures reached { result ≡ Found.Model → IsReached search.new.rules evidence.now literals.now search.new.model }
-    ensures cheap { result ≡ Found.Model → cost costs.now (take (length costs.now) search.new.model) ≤ weights.new.lower }
+    ensures cheap { result ≡ Found.Model → cost costs.now.items (take (length costs.now.items) search.new.model) ≤ weights.new.lower }
     ensures none { result ≡ Found.Nothing → (a : Assignment) → keeps search.new.rules a ≡ true → Knows a evidence.now (length evidence.now) → all_true a literals.now ≡ false }
 {
     let vars = evidence.words().len();
     for _turn in 0..u32::MAX {
-        if i32::MAX as usize <= vars.saturating_add(weights.bounds.len()) {
+        if DEFINITIONS < weights.bounds.len() {
             return Found::Stopped;
         }
         assume(&mut room.assumed, evidence, weights, literals);

@@ -32,7 +32,7 @@ impl Model for Evidence {
 impl Evidence {
     /// Nothing is known of so many variables.
     pub(crate) fn new(alloc: Global, vars: u32) -> Result<Evidence, Memory>
-        requires { vars < 2 ^ 31 }
+        requires { vars < 2 ^ 30 }
         ensures { IfOk result (λ evidence. evidence ≡ replicate vars 0) }
     {
         let vars = vars as usize;
@@ -56,7 +56,7 @@ impl Evidence {
     pub(crate) fn words(&self) -> &[u32]
         ensures value { result.now ≡ self.now }
         ensures words { All (λ w. w < 3) self.now }
-        ensures few { length self.now < 2 ^ 31 }
+        ensures few { length self.now < 2 ^ 30 }
     {
         self.words.as_slice()
     }

@@ -11,7 +11,7 @@ use crate::Memory;
 use crate::assumed::{assume, assume_range, meet};
 use crate::cores::{Found, Room, bits_cost, find};
 use crate::evidence::Evidence;
-use crate::weights::Weights;
+use crate::weights::{DEFINITIONS, Weights};
 use clause_encoder::Cnf;
 use clause_search::Search;
 use minimiser::TOTAL_LIMIT;
@@ -19,9 +19,7 @@ use std::alloc::Global;
 use std::marker::Model;
 use std::mem;
 
-// How many weights of definitions there is memory for, and when it is time to begin anew.
-const DEFINITIONS: usize = 1024;
-
+// When there are so many definitions, it is time to begin anew.
 const MANY: usize = 768;
 
 /// A search for bits of all variables that agree with evidence, make all clauses true, and cost little. Only `new` takes memory.
@@ -269,7 +267,6 @@ impl Oracle {
         ensures low { self.new.low ≡ self.old.low }
         ensures high { self.new.high ≡ self.old.high }
     {
-        let _ = self.search.definitions();
         if self.weights.lower < self.high || DEFINITIONS < self.weights.bounds.len() {
             return None;
         }
@@ -279,7 +276,8 @@ impl Oracle {
             &self.weights,
             literals,
         );
-        if !meet(&mut self.search, self.room.assumed.as_slice()) {
+        let _ = self.search.definitions();
+        if !meet(&mut self.search, &self.room.assumed) {
             return Some(false);
         }
         let cost = bits_cost(&self.costs, self.search.model());
@@ -315,7 +313,7 @@ impl Oracle {
             self.low != 0,
             literals,
         );
-        if !meet(&mut self.search, self.room.assumed.as_slice()) {
+        if !meet(&mut self.search, &self.room.assumed) {
             return false;
         }
         take_bits(&mut self.bits, self.search.model());
@@ -324,14 +322,14 @@ impl Oracle {
 }
 
 // Gives the first two definitions these limits, if they have others.
-fn bound(search: &mut Search, weights: &mut Weights, costs: &[u32], most: u32, less: u32)
-    requires first { take 2 search.old.rules.members ≡ first_two costs.now }
-    requires parts { length weights.old.parts.items ≡ length costs.now }
+fn bound(search: &mut Search, weights: &mut Weights, costs: &Vec<u32>, most: u32, less: u32)
+    requires first { take 2 search.old.rules.members ≡ first_two costs.now.items }
+    requires parts { length weights.old.parts.items ≡ length costs.now.items }
     ensures cnf { search.new.rules.cnf ≡ search.old.rules.cnf }
-    ensures first { take 2 search.new.rules.members ≡ first_two costs.now }
+    ensures first { take 2 search.new.rules.members ≡ first_two costs.now.items }
     ensures most { slice_index_or search.new.rules.limits 0 0 ≡ most }
     ensures less { slice_index_or search.new.rules.limits 1 0 ≡ less }
-    ensures weighs { (evidence : List ℕ) → Weighs search.old.rules costs.now evidence [] weights.old → Weighs search.new.rules costs.now evidence [] weights.new }
+    ensures weighs { (evidence : List ℕ) → Weighs search.old.rules costs.now.items evidence [] weights.old → Weighs search.new.rules costs.now.items evidence [] weights.new }
 {
     if search.definitions() < 2 || search.limit(0) != most || search.limit(1) != less {
         search.restart(most, less);

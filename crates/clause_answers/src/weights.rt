@@ -11,6 +11,9 @@ use crate::literals::place_of;
 use clause_search::{Search, Weighted};
 use std::alloc::Global;
 
+/// For how many weights of definitions there is memory.
+pub(crate) const DEFINITIONS: usize = 1024;
+
 /// Weights of literals, each of which is to be true, and what all bits cost at least.
 #[derive(Drop)]
 pub(crate) struct Weights {
@@ -52,7 +55,13 @@ fn pad(bounds: &mut Vec<u32>, definitions: usize)
 
 // Gives a weight to the definition that has these members and this limit, or to a new one.
 #[tactic(auto, using(crate::proofs::Spread::grow_steps))]
-fn charge(search: &mut Search, bounds: &mut Vec<u32>, members: &[Weighted], limit: u32, weight: u32) -> bool
+fn charge(
+    search: &mut Search,
+    bounds: &mut Vec<u32>,
+    members: &[Weighted],
+    limit: u32,
+    weight: u32,
+) -> bool
     requires { length bounds.old.items ≤ length search.old.rules.members }
     ensures grown { Grown search.old.rules search.new.rules }
     ensures short { length bounds.new.items ≤ length search.new.rules.members }

@@ -23,6 +23,6 @@ AreTrue a before weights n = (i : ℕ) → i < n → 0 < slice_index weights i �
 -- There is a word for each variable, and there are literals that say the same. There is room for one for each variable.
 pub record IsEvidence (evidence : List ℕ) (literals : List ℤ) (space : ℕ) : Type 0 where
   pub words : All (λ w. w < 3) evidence
-  pub small : length evidence < 2 ^ 31
+  pub small : length evidence < 2 ^ 30
   pub read : IsRead evidence (length evidence) literals
   pub room : length evidence ≤ space

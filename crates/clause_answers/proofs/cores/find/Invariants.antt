@@ -6,5 +6,5 @@ abbrev pub invariant-loop-turn : goal.invariant-loop-turn
 invariant-loop-turn l = record {
   grown : Grown l.initial.search.rules l.search.rules;
   room : vec_capacity l.initial.room.assumed ≤ vec_capacity l.room.assumed;
-  weighs : Weighs l.search.rules l.costs l.evidence l.literals l.weights;
+  weighs : Weighs l.search.rules l.costs.items l.evidence l.literals l.weights;
 }

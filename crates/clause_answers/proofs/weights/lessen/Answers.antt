@@ -1,6 +1,5 @@
 use Rattle.std.proofs.Common.{◌≡◌, ◌+◌, ◌-◌, refl, ap, ◌∙◌, arith}
 use Rattle.std.proofs.lemmas.Int.{to_z-of_z}
-use Rattle.clause_search.specs.Searching.{holds}
 use Rattle.clause_answers.proofs.Spread.{part-lessened}
 use Rattle.clause_answers.proofs.weights.lessen.Goals as goal
 

@@ -1,5 +1,4 @@
 use Rattle.std.proofs.Common.{arith}
-use Rattle.std.proofs.lemmas.Grind.{common_steps}
 use Rattle.clause_answers.proofs.Spread.{bound-lessened}
 use Rattle.clause_answers.proofs.weights.lessen_bound.Goals as goal
 

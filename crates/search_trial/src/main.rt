@@ -11,9 +11,8 @@ mod trial;
 
 use crate::device::device_of;
 use crate::trial::Trial;
-use std::fs;
-use std::io;
 use std::io::{Read, Write};
+use std::{fs, io};
 use system_edge::words_of;
 
 fn main(rt: HostRuntime) -> io::Result<()> {

@@ -65,7 +65,12 @@ impl Replies {
         self.end()
     }
 
-    pub(crate) fn blame(&mut self, session: &[u8], part: &Name, blame: Blame) -> Result<(), AllocError> {
+    pub(crate) fn blame(
+        &mut self,
+        session: &[u8],
+        part: &Name,
+        blame: Blame,
+    ) -> Result<(), AllocError> {
         self.word(session)?;
         self.word(b"blame")?;
         self.word(part.as_slice())?;

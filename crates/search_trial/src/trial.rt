@@ -135,7 +135,13 @@ impl Trial {
     }
 
     // Notes what is known of a wire or a part. The case is another one then.
-    fn note(&mut self, session: &[u8], part: bool, name: &[u8], word: u32) -> Result<(), AllocError> {
+    fn note(
+        &mut self,
+        session: &[u8],
+        part: bool,
+        name: &[u8],
+        word: u32,
+    ) -> Result<(), AllocError> {
         let first = if part { 0 } else { self.parts.len() };
         let found = if part {
             place_of(&self.parts, name)
@@ -229,7 +235,8 @@ impl Trial {
             return LevelStep::End;
         }
         let step = if self.pointed {
-            self.search.next(Some(self.point.as_slice()), &mut self.state)
+            self.search
+                .next(Some(self.point.as_slice()), &mut self.state)
         } else {
             self.search.next(None, &mut self.state)
         };
@@ -263,7 +270,10 @@ impl Trial {
     fn probe_each(&mut self, session: &[u8]) -> Result<(), AllocError> {
         let wires = self.wires.len();
         let vars = self.search.vars();
-        if self.numbers.len() / 2 != wires || self.numbers.len() % 2 != 0 || vars.saturating_sub(self.search.parts()) < wires {
+        if self.numbers.len() / 2 != wires
+            || self.numbers.len() % 2 != 0
+            || vars.saturating_sub(self.search.parts()) < wires
+        {
             return Ok(());
         }
         if !self.search.probe_all(&mut self.numbers) {
@@ -286,7 +296,13 @@ impl Trial {
         Some(self.numbers[at])
     }
 
-    fn put_probe(&mut self, session: &[u8], wire: usize, zero: Option<u32>, one: Option<u32>) -> Result<(), AllocError> {
+    fn put_probe(
+        &mut self,
+        session: &[u8],
+        wire: usize,
+        zero: Option<u32>,
+        one: Option<u32>,
+    ) -> Result<(), AllocError> {
         if self.wires.len() <= wire {
             return Ok(());
         }

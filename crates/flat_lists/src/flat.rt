@@ -1,4 +1,4 @@
-ghost use Rattle.std.specs.Prelude.{◌≡◌, ◌<◌, ◌++◌, [], ◌∷◌, length, slice_index_or, OnOk, OnErr};
+ghost use Rattle.std.specs.Prelude.{◌≡◌, ◌<◌, ◌++◌, [], ◌∷◌, length, slice_index_or, IfOk, OnOk, OnErr};
 ghost use Rattle.std.specs.List.{sum_by};
 
 use crate::Memory;
@@ -39,6 +39,12 @@ impl<T> FlatLists<T> {
         }
     }
 
+    /// Whether another list of `items` items fits into the memory that is there.
+    pub fn has_room(&self, items: usize) -> bool {
+        self.ends.len() < self.ends.capacity()
+            && items <= self.items.capacity().saturating_sub(self.items.len())
+    }
+
     /// Returns the number of lists.
     pub fn len(&self) -> usize
         ensures { result ≡ length self.now }
@@ -70,6 +76,23 @@ impl<T> FlatLists<T> {
 }
 
 impl<T: Copy> FlatLists<T> {
+    /// Returns an empty list of lists, with memory for `lists` lists of `items` items in all.
+    pub fn with_room(alloc: Global, lists: usize, items: usize) -> Result<FlatLists<T>, Memory>
+        ensures { IfOk result (λ flat. flat ≡ []) }
+    {
+        let items = Vec::with_capacity(alloc, items)?;
+        let ends = Vec::with_capacity(alloc, lists)?;
+        Ok(FlatLists { items, ends })
+    }
+
+    /// Removes all lists and keeps their memory.
+    pub fn clear(&mut self)
+        ensures { self.new ≡ [] }
+    {
+        self.items.clear();
+        self.ends.clear();
+    }
+
     /// Adds a copy of a list after the others.
     pub fn push(&mut self, list: &[T]) -> Result<(), Memory>
         ensures ok { OnOk result (self.new ≡ self.old ++ list.now ∷ []) }

@@ -1,0 +1,15 @@
+pub mod KnownLiterals
+pub mod Spread
+pub mod Collected
+pub mod BitCosts
+pub mod CarriedBits
+pub mod Settled
+pub mod Answered
+pub mod States
+pub mod Prefix
+pub mod Completing
+pub mod Lists
+pub mod StateWords
+pub mod Kept
+pub mod Probes
+pub mod Blames

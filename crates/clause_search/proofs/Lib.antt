@@ -1,0 +1,4 @@
+pub mod Clauses
+pub mod Defined
+pub mod Extended
+pub mod Exhausted

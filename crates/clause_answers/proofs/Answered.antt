@@ -14,7 +14,7 @@ use Rattle.clause_search.specs.Searching.{Rules, IsModel, Refutes, all_true, fal
 use Rattle.clause_answers.specs.declared.weights.Weights.{Weights}
 use Rattle.clause_answers.specs.Questions.{Question}
 use Rattle.clause_answers.specs.inner.Known.{Knows, AreTrue}
-use Rattle.clause_answers.specs.inner.Asking.{Asked, Fits, cost_of, IsMinimum, IsFound, NoneFound, Lowered}
+use Rattle.clause_answers.specs.inner.Asking.{Asked, Fits, cost_of, IsMinimum, IsFound, NoneFound, LeastFrom, Lowered}
 use Rattle.clause_answers.specs.inner.Weighing.{Weighs, IsFresh, IsReached}
 use Rattle.clause_answers.specs.inner.Carrying.{asked, first_two, IsOracle}
 use Rattle.clause_answers.proofs.CarriedBits.{Ready, carried, cut}
@@ -133,12 +133,19 @@ cost-total (c ∷ costs) [] = omega arith
 cost-total (c ∷ costs) (true ∷ bits) = omega (arith, cost-total costs bits, total-drop (c ∷ costs) 0 (omega arith))
 cost-total (c ∷ costs) (false ∷ bits) = omega (arith, cost-total costs bits, total-drop (c ∷ costs) 0 (omega arith))
 
-pub lowered : (q : Question) (literals : List ℤ) (bits : List Bool) (high : ℕ) (least : Option ℕ) → total_cost q.costs < TOTAL_LIMIT → Lowered q literals bits high least
-    → NoneFound (record { question = q; low = 0; high = high; bits = bits }) literals → IsMinimum q literals bits least
-lowered q literals bits high None total l none = λ others f. none others f (omega arith) (omega (arith, l, total, cost-total q.costs (take (length q.costs) others)))
-lowered q literals bits high (Some n) total l none = record {
+pub lowered : (q : Question) (literals : List ℤ) (from top : ℕ) (bits : List Bool) (high : ℕ) (least : Option ℕ) → Lowered q literals from top bits high least
+    → NoneFound (record { question = q; low = from; high = high; bits = bits }) literals → LeastFrom q literals from top bits least
+lowered q literals from top bits high None l none = λ others f lo hi. none others f lo (omega (arith, l, hi))
+lowered q literals from top bits high (Some n) l none = record {
   fits = l.fits;
   true_ = l.true_;
   costs = l.costs;
-  bound = λ others f t. elim (cases_lt (cost_of q others) n) [ inl h ↦ absurd (let e = none others f (omega arith) (omega (arith, h, l.next)) in cc) | inr h ↦ h ];
+  low = l.low;
+  high = l.top_is;
+  bound = λ others f t lo. elim (cases_lt (cost_of q others) n) [ inl h ↦ absurd (let e = none others f lo (omega (arith, h, l.next)) in cc) | inr h ↦ h ];
 }
+
+-- No bits cost more than all parts.
+pub from-minimum : (q : Question) (literals : List ℤ) (bits : List Bool) (least : Option ℕ) → total_cost q.costs < TOTAL_LIMIT → LeastFrom q literals 0 TOTAL_LIMIT bits least → IsMinimum q literals bits least
+from-minimum q literals bits None total none = λ others f. none others f (omega arith) (omega (arith, total, cost-total q.costs (take (length q.costs) others)))
+from-minimum q literals bits (Some n) total l = record { fits = l.fits; true_ = l.true_; costs = l.costs; bound = λ others f t. l.bound others f t (omega arith) }

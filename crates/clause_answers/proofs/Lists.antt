@@ -16,7 +16,7 @@ use Rattle.conditioner.specs.Models.{fits_evidence}
 use Rattle.minimiser.proofs.Models.{least-none}
 use Rattle.diagnosis_lister.specs.declared.listing.Step.TheVariants.{Found, End, Inconsistent}
 use Rattle.diagnosis_lister.specs.Listing.{step_of}
-use Rattle.diagnosis_lister.specs.inner.Fixing.{IsFirst}
+use Rattle.diagnosis_lister.specs.inner.Fixing.{IsFirst, Has}
 use Rattle.clause_search.specs.Searching.{all_true}
 use Rattle.clause_answers.specs.Questions.{Question, has_model, models, least_under, diagnoses_under}
 use Rattle.clause_answers.specs.inner.Asking.{Fits}
@@ -48,7 +48,7 @@ module _ (q : Question) (within : length q.costs ≤ q.cnf.vars) where
         begins = c.begins;
       }
 
-  Sorted-models : Sorted (models q)
+  pub Sorted-models : Sorted (models q)
   Sorted-models = Sorted-filter test (states (length q.costs)) (Sorted-states (length q.costs))
 
   -- ---- the diagnoses
@@ -57,10 +57,15 @@ module _ (q : Question) (within : length q.costs ≤ q.cnf.vars) where
     abbrev is_low : List Bool → Bool
     is_low h = is_at_most (cost q.costs h) (least_under q)
 
-    least-low : (h : List Bool) → In h (models q) → n ≤ cost q.costs h
+    pub least-low : (h : List Bool) → In h (models q) → n ≤ cost q.costs h
     least-low h m =
         let r = In-filter test h (states (length q.costs)) m in
         (least-out q.costs (length q.costs) test (Some n) e).1 (cost q.costs h) (record { state = h; long = bits_length (length q.costs) h r.0; passes = r.1; cost_is = refl })
+
+    pub least-shown : Has (Shows q n n)
+    least-shown =
+        let r = (least-out q.costs (length q.costs) test (Some n) e).0 in
+        record { state = r.state; is = in-shows n n r.state (In-filtered test r.state (states (length q.costs)) (subst (λ k. In r.state (lists_of_bits k)) r.long (bits_in r.state)) r.passes) (omega (arith, r.cost_is)) (omega (arith, r.cost_is)) }
 
     pub diagnosis-in : (h : List Bool) → Shows q n n h → In h (diagnoses_under q)
     diagnosis-in h s = In-filtered is_low h (models q) (shows-in n n h s) (ap (is_at_most (cost q.costs h)) e ∙ le-leb (cost q.costs h) n (shows-high n n h s))

@@ -5,4 +5,5 @@ pub mod Weighing
 pub mod Carrying
 pub mod Listed
 pub mod Cases
+pub mod Levels
 pub mod Reported

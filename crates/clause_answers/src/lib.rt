@@ -7,6 +7,7 @@ mod case_search;
 mod cores;
 mod evidence;
 mod finding;
+mod levels;
 mod literals;
 mod oracle;
 mod probing;

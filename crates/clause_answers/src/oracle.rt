@@ -3,7 +3,7 @@ ghost use Rattle.state_rules.specs.Bits.{bit_in};
 ghost use Rattle.clause_encoder.specs.Clauses.{is_clause_list};
 ghost use Rattle.conditioner.specs.Models.{total_cost};
 ghost use Rattle.clause_search.specs.Searching.{Rules, are_within};
-ghost use Rattle.clause_answers.specs.inner.Asking.{Asked, Fits, cost_of, IsMinimum, IsLeast, IsFound, NoneFound};
+ghost use Rattle.clause_answers.specs.inner.Asking.{Asked, Fits, cost_of, IsMinimum, IsLeast, IsFound, NoneFound, LeastFrom};
 ghost use Rattle.clause_answers.specs.inner.Weighing.{Weighs};
 ghost use Rattle.clause_answers.specs.inner.Carrying.{first_two, IsOracle};
 
@@ -238,18 +238,32 @@ impl Oracle {
         ensures low { self.new.low ≡ self.old.low }
         ensures high { self.new.high ≡ self.old.high }
     {
+        let _parts = self.costs();
+        self.least_from(0, TOTAL_LIMIT, literals)
+    }
+
+    /// Returns the least cost from `from` to `top` of bits that fit and make the literals true; these bits are then in `bits`. `None` if there
+    /// are none. The range of `ask` stays.
+    pub(crate) fn least_from(&mut self, from: u32, top: u32, literals: &[i32]) -> Option<u32>
+        requires within { are_within self.old.question.cnf.vars literals.now ≡ true }
+        requires few { length literals.now ≤ self.old.question.cnf.vars }
+        ensures least { LeastFrom self.old.question literals.now from top self.new.bits result }
+        ensures question { self.new.question ≡ self.old.question }
+        ensures low { self.new.low ≡ self.old.low }
+        ensures high { self.new.high ≡ self.old.high }
+    {
         let low = self.low;
         let high = self.high;
-        self.seek(0, TOTAL_LIMIT);
+        self.seek(from, top);
         let mut least = None;
-        while self.ask_range(literals) {
+        while self.ask(literals) {
             let cost = self.cost();
-            if cost == 0 {
+            if cost == from {
                 self.seek(low, high);
-                return Some(0);
+                return Some(from);
             }
             least = Some(cost);
-            self.seek(0, cost - 1);
+            self.seek(from, cost - 1);
         }
         self.seek(low, high);
         least

@@ -4,7 +4,6 @@ use Rattle.state_rules.specs.Assignments.{assignment}
 use Rattle.state_rules.specs.Ranking.{cost}
 use Rattle.clause_encoder.specs.Clauses.{all_hold}
 use Rattle.conditioner.specs.Models.{fits_evidence}
-use Rattle.minimiser.specs.declared.pass.TheConstants.{TOTAL_LIMIT}
 use Rattle.clause_search.specs.Searching.{all_true}
 use Rattle.clause_answers.specs.Questions.{Question}
 
@@ -49,13 +48,29 @@ abbrev pub NoneFound : Asked → List ℤ → Type 0
 NoneFound asked literals = (bits : List Bool) → Fits asked.question bits → asked.low ≤ cost_of asked.question bits
     → cost_of asked.question bits ≤ asked.high → all_true (assignment bits) literals ≡ false
 
--- Bits that fit, make literals true and cost `n`, the cost after which `high` comes; or nothing was found, and no bits cost more than `high`.
-pub record IsLowered (q : Question) (literals : List ℤ) (bits : List Bool) (high n : ℕ) : Type 0 where
+-- Bits that fit, make literals true, and cost `n`, from `from` to `top`: no others that cost `from` or more cost less.
+pub record IsLeastFrom (q : Question) (literals : List ℤ) (from top : ℕ) (bits : List Bool) (n : ℕ) : Type 0 where
   pub fits : Fits q bits
   pub true_ : all_true (assignment bits) literals ≡ true
   pub costs : cost_of q bits ≡ n
+  pub low : from ≤ n
+  pub high : n ≤ top
+  pub bound : (others : List Bool) → Fits q others → all_true (assignment others) literals ≡ true → from ≤ cost_of q others → n ≤ cost_of q others
+
+-- the least cost from `from` to `top` of bits that fit and make literals true, and such bits; none if no bits do
+abbrev pub LeastFrom : Question → List ℤ → ℕ → ℕ → List Bool → Option ℕ → Type 0
+LeastFrom q literals from top bits None = NoneFound (record { question = q; low = from; high = top; bits = bits }) literals
+LeastFrom q literals from top bits (Some n) = IsLeastFrom q literals from top bits n
+
+-- Bits that fit, make literals true and cost `n`, the cost after which `high` comes; or nothing was found, and `high` is still the top.
+pub record IsLowered (q : Question) (literals : List ℤ) (from top : ℕ) (bits : List Bool) (high n : ℕ) : Type 0 where
+  pub fits : Fits q bits
+  pub true_ : all_true (assignment bits) literals ≡ true
+  pub costs : cost_of q bits ≡ n
+  pub low : from ≤ n
+  pub top_is : n ≤ top
   pub next : high + 1 ≡ n
 
-abbrev pub Lowered : Question → List ℤ → List Bool → ℕ → Option ℕ → Type 0
-Lowered q literals bits high None = high ≡ TOTAL_LIMIT
-Lowered q literals bits high (Some n) = IsLowered q literals bits high n
+abbrev pub Lowered : Question → List ℤ → ℕ → ℕ → List Bool → ℕ → Option ℕ → Type 0
+Lowered q literals from top bits high None = high ≡ top
+Lowered q literals from top bits high (Some n) = IsLowered q literals from top bits high n

@@ -19,7 +19,7 @@ from .board_design import Design
 from .board_netlist import Gates
 from .circuit import Circuit, Node, UnusableNetlist, kind_of
 from .kicad import read_kicad
-from .readers import READERS, TABLES, TO_PLAIN_CELLS
+from .readers import PLAIN_CELLS, READERS, TABLES, TO_PLAIN_CELLS
 
 # A name that is longer is replaced.
 LONGEST_NAME = 32
@@ -36,7 +36,7 @@ TOP = "TOP"
 # Netlists of boards.
 BOARDS = (".net", ".xml")
 NO_DESIGN = "a design (.dev) has no flip-flops: let OUT end in .bench"
-FROM_VERILOG = "; of Verilog yosys makes BLIF: `read_verilog x.v; synth -flatten; write_blif -icells -gates x.blif`"
+FROM_VERILOG = f"; of Verilog yosys makes BLIF: `read_verilog x.v; {PLAIN_CELLS}; write_blif -icells -gates x.blif`"
 
 
 @dataclasses.dataclass

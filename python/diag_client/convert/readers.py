@@ -33,7 +33,8 @@ PINS = {
     **{word: f"{letters}Y" for word, (letters, _) in TABLES.items()},
     **dict.fromkeys(PLAIN_FLIP_FLOPS, "DCQ"),
 }
-TO_PLAIN_CELLS = "in yosys: `synth -flatten; dfflegalize -cell $_DFF_P_ 01; abc -g AND,NAND,OR,NOR,XOR,XNOR; opt_clean`"
+PLAIN_CELLS = "synth -flatten; dfflegalize -cell $_DFF_P_ 01; abc -g AND,NAND,OR,NOR,XOR,XNOR; opt_clean"
+TO_PLAIN_CELLS = f"in yosys: `{PLAIN_CELLS}`"
 # The wires of a JSON that are tied; nothing defines the last two.
 CONSTANTS: dict[str, Constant] = {"0": 0, "1": 1, "x": None, "z": None}
 # Words of BLIF that are lines of a circuit, and the values that a flip-flop may begin with.

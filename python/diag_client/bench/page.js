@@ -54,7 +54,7 @@ function written(text, fields) {
 }
 
 function say(text, isGood = false) {
-  byId("message").textContent = text;
+  byId("message-text").textContent = text;
   byId("message").className = isGood ? "good" : "";
   byId("message").hidden = !text;
 }
@@ -67,13 +67,13 @@ let adviceTimer = 0;
 async function post(where, act, isQuiet = false) {
   let answer;
   try {
-    answer = await fetch(where, { method: "POST", headers: { "Content-Type": "application/json" }, body: JSON.stringify(act) });
+    answer = await fetch(where, { method: "POST", headers: { "Content-Type": "application/json" }, body: JSON.stringify(act), keepalive: act.act === "replaced" });
   } catch {
     say("The program does not answer. Is it still running? Save keeps what was entered so far.");
     return null;
   }
   const got = await answer.json();
-  if (!isQuiet || got.error) say(got.error || "");
+  if (!isQuiet || got.error) say(got.error || got.said || "", !got.error);
   return got;
 }
 
@@ -90,6 +90,7 @@ function ask(act) {
   queue = queue.then(async () => {
     const got = await post("do", { ...seen, ...act }, act.act === "state");
     if (got && got.version !== undefined) await show(got);
+    return got;
   });
   return queue;
 }
@@ -387,7 +388,11 @@ function paintRest(held) {
   const forget = (part) => ask({ act: "hold", part, mode: null });
   byId("tested").replaceChildren(...[...held].map(([part, mode]) => chip(`${part}: ${mode}`, `${part} was not tested`, () => forget(part))));
   byId("tested-section").hidden = !held.size;
-  if (document.activeElement !== byId("replaced")) byId("replaced").value = state.replaced;
+  if (document.activeElement !== byId("replaced") && !noteTimer) byId("replaced").value = state.replaced;
+  byId("saved").textContent = state.unsaved || (state.undo ? `Saved in ${state.saved}` : "");
+  byId("earlier-section").hidden = !state.earlier?.length;
+  byId("earlier").replaceChildren(...(state.earlier ?? []).map(([at, board, count]) =>
+    make("li", {}, make("a", { href: `../${board}/`, textContent: `${new Date(at * 1000).toLocaleString()}: ${count} readings` }))));
   byId("log").textContent = state.log.join("\n");
   byId("undo").disabled = !state.undo;
   byId("redo").disabled = !state.redo;
@@ -589,8 +594,53 @@ function paper() {
     make("h2", { textContent: "Readings" }), make("table", {}, row("th", ["pattern", "wire", "read", "should be", ""]), ...readings),
     make("h2", { textContent: "Explanations" }), make("p", { textContent: byId("status").textContent }), make("ul", {}, ...found),
     make("h2", { textContent: "Tested parts" }), make("p", { textContent: state.held.map(([part, mode]) => `${part}: ${mode}`).join(", ") || "none" }),
-    make("h2", { textContent: "What was replaced" }), make("div", { className: "write", textContent: state.replaced }),
+    make("h2", { textContent: "What was replaced" }), make("div", { className: "write", textContent: byId("replaced").value }),
     make("p", { textContent: "Name and date:" }));
+}
+
+// What is typed is sent once the hand rests, and when the page is left.
+let noteTimer = 0;
+
+function note() {
+  clearTimeout(noteTimer);
+  noteTimer = 0;
+  if (state && canEdit() && byId("replaced").value !== state.replaced) ask({ act: "replaced", text: byId("replaced").value });
+}
+
+// The box keeps its text until all of it is taken, and shows what is wrong with it.
+async function take(text) {
+  const box = byId("paste-text");
+  if (!text.trim()) return;
+  const got = await ask({ act: "readings", text, here: byId("paste-here").checked });
+  if (got && !got.error) {
+    box.value = "";
+    byId("paste-error").textContent = "";
+    byId("paste-dialog").close();
+    return;
+  }
+  box.value = text;
+  if (!byId("paste-dialog").open) byId("paste-dialog").showModal();
+  const why = got ? got.error : "The program does not answer. The text stays here.";
+  byId("paste-error").textContent = why;
+  say("");
+  box.focus();
+  box.setSelectionRange(...placeOf(why, text));
+}
+
+// Where in a text the words of a refusal point to: a line by its number, or a reading by itself or its wire.
+function placeOf(why, text) {
+  const line = /(?:row|line) (\d+)/.exec(why);
+  let at = 0;
+  for (const [number, row] of text.split("\n").entries()) {
+    if (line && number + 1 === Number(line[1])) return [at, at + row.length];
+    at += row.length + 1;
+  }
+  for (const { 0: word, index } of text.matchAll(/[^\s,;]+/g)) {
+    const wire = word.slice(0, word.lastIndexOf("="));
+    if (why.startsWith(word) || why.startsWith(`'${word}'`) || why.includes(` ${word} `) || (wire && why.includes(`wire ${wire}:`)))
+      return [index, index + word.length];
+  }
+  return [text.length, text.length];
 }
 
 function buttons() {
@@ -617,8 +667,9 @@ function buttons() {
   on("menu-forget", () => hold(null));
   on("menu-open", () => { openBlocks = [...openBlocks, menuBox.name]; closeMenu(); load(); });
   on("menu-close", closeMenu);
-  on("paste", () => { byId("paste-text").value = ""; byId("paste-dialog").showModal(); });
-  on("paste-take", () => { if (byId("paste-text").value.trim()) ask({ act: "readings", text: byId("paste-text").value }); });
+  on("paste", () => byId("paste-dialog").showModal());
+  on("paste-take", () => take(byId("paste-text").value));
+  on("message-close", () => say(""));
 }
 
 function listeners() {
@@ -629,13 +680,15 @@ function listeners() {
   });
   byId("search").addEventListener("change", find);
   byId("time").addEventListener("input", () => setTime(Number(byId("time").value)));
-  byId("replaced").addEventListener("change", () => canEdit() && ask({ act: "replaced", text: byId("replaced").value }));
+  byId("replaced").addEventListener("input", () => { clearTimeout(noteTimer); noteTimer = setTimeout(note, 300); });
+  byId("replaced").addEventListener("change", note);
+  addEventListener("pagehide", note);
   addEventListener("beforeprint", paper);
   addEventListener("focus", () => state && ask({ act: "state", version: state.version }));
   addEventListener("pointerdown", (event) => { if (!byId("menu").contains(event.target)) byId("menu").hidden = true; });
   addEventListener("paste", (event) => {
     if (["INPUT", "TEXTAREA"].includes(event.target.tagName) || !canEdit()) return;
-    ask({ act: "readings", text: event.clipboardData.getData("text") });
+    take(event.clipboardData.getData("text"));
   });
   addEventListener("keydown", (event) => {
     if (event.key === "Escape") closeMenu();

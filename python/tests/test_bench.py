@@ -308,8 +308,10 @@ class OnC17(unittest.TestCase):
 
     def test_it_says_if_nothing_can_be_saved(self):
         with mock.patch("diag_client.bench.saved.write_whole", side_effect=OSError(28, "No space left on device")):
-            self.assertIn("not saved", self.enter()["unsaved"])
-        self.assertEqual(self.do("undo")["unsaved"], "")
+            self.enter()
+            self.assertIn("not saved: [Errno 28]", self.bench.shelf.why)
+        self.do("undo")
+        self.assertEqual(self.bench.shelf.why, "")
 
     def test_refused(self):
         before = self.enter()

@@ -523,7 +523,7 @@ class Board:
             "candidates": [{"cost": cost, "parts": parts} for cost, parts in answers.candidates],
             "blame": [(part, str(verdict)) for part, verdict in answers.blame.items() if verdict is not Verdict.NEVER],
             "advice": answers.advice, "log": record.script(bench.title), "undo": len(self._before), "redo": len(self._after),
-            "shown": self.view.shown, "levels": self.view.with_levels, "unsaved": bench.shelf.why,
+            "shown": self.view.shown, "levels": self.view.with_levels,
         }  # fmt: skip
 
 

@@ -217,16 +217,15 @@ class Handler(http.server.BaseHTTPRequestHandler):
         if act.get("act") == "state" and act.get("version") == board.version:
             self._json(200, {"same": True})
             return
-        own = {"read_only": watching, "watch": self._watch_path(board, watching)}
+        try:
+            status, state = 200, board.do(act)
+        except Bad as error:
+            status, state = 422, board.state() | {"error": str(error)}
+        own: dict[str, Any] = {"read_only": watching, "watch": self._watch_path(board, watching)}
         if not watching:
             shelf = board.bench.shelf
-            own |= {"saved": str(shelf.place(board.id)), "earlier": shelf.earlier() if board.is_empty else []}
-        try:
-            state = board.do(act)
-        except Bad as error:
-            self._json(422, board.state() | own | {"error": str(error)})
-            return
-        self._json(200, state | own)
+            own |= {"saved": str(shelf.place(board.id)), "unsaved": shelf.why, "earlier": shelf.earlier() if board.is_empty else []}
+        self._json(status, state | own)
 
     def _watch_path(self, board: Board, watching: bool) -> str | None:
         token = self.server.watch_token

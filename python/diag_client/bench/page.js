@@ -4,6 +4,8 @@
 
 const byId = (id) => document.getElementById(id);
 const RADIUS = 11;
+// A finger needs marks of 24 pixels, and those that are nearest to each other are 28 apart.
+const FINGER = 12.5, MOST_FINGER = 14;
 // A drawing that would have to be smaller than OVERVIEW to be seen whole is first shown in part, at the scale READABLE.
 const LEAST_SCALE = 0.02, MOST_SCALE = 4, OVERVIEW = 0.25, READABLE = 0.6;
 
@@ -216,6 +218,10 @@ async function show(got) {
   }
   coneOf = cone;
   if (drawing) paint();
+  if (isFollowing && state.advice !== null) {
+    isFollowing = false;
+    if (state.advice.length) visit(state.advice[0]);
+  }
   clearTimeout(adviceTimer);
   if (state.advice === null && canEdit()) adviceTimer = setTimeout(advise, 200);
 }
@@ -234,6 +240,7 @@ function paint() {
   paintInputs(seen);
   paintStatus();
   paintAdvice();
+  paintProbe();
   paintCandidates();
   paintRest(held);
 }
@@ -244,7 +251,7 @@ function paintMark(wire, mark, seen, expected, against, ranks) {
   const name = nameOf(wire), bit = seen.get(name), should = expected.get(name), rank = ranks.get(name);
   const { group } = mark;
   group.setAttribute("class", `mark ${bitClass(bit)} ${against.has(name) ? "against" : ""}`);
-  const parts = [draw("circle", { r: RADIUS }), written(bit ?? should ?? "–", { y: 4, class: bit === undefined ? "should" : "" })];
+  const parts = [draw("circle", { r: RADIUS }), draw("circle", { class: "touch" }), written(bit ?? should ?? "–", { y: 4, class: bit === undefined ? "should" : "" })];
   if (against.has(name)) parts.push(written("≠", { x: 0, y: -RADIUS - 4, class: "sign" }));
   if (rank !== undefined) {
     parts.push(draw("circle", { r: RADIUS + 5, class: "ring" }), written(`${rank}.`, { y: -RADIUS - 9, class: "rank" }));
@@ -329,10 +336,8 @@ function paintStatus() {
 function paintAdvice() {
   const rows = state.advice ?? [];
   byId("advice").replaceChildren(...rows.map((row, rank) => {
-    const where = state.patterns.length > 1 ? `${spoken(row.wire)} in ${row.pattern}` : spoken(row.wire);
-    const of = row.complete ? "" : ` of the first ${row.of}`;
-    const go = make("button", { className: "go", title: "Show it in the drawing" }, make("b", { textContent: `${rank + 1}. ${where}` }), make("br"),
-      make("small", { textContent: `if 0: ${row.zero} left, if 1: ${row.one} left${of}` }));
+    const go = make("button", { className: "go", title: "Show it in the drawing" }, make("b", { textContent: `${rank + 1}. ${placeOfProbe(row)}` }),
+      make("br"), make("small", { textContent: leftAfter(row) }));
     go.addEventListener("click", () => visit(row));
     const cannot = make("button", { className: "edit", textContent: "Cannot reach", title: `Leave ${wireOf(row.wire)} out` });
     cannot.addEventListener("click", () => ask({ act: "reach", wire: row.wire, can: false }));
@@ -345,6 +350,37 @@ function paintAdvice() {
   byId("advice-section").hidden = !rows.length && !text && !state.unreachable.length;
   const reach = (wire) => ask({ act: "reach", wire, can: true });
   byId("unreachable").replaceChildren(...state.unreachable.map((wire) => chip(`cannot reach ${wire}`, `can reach ${wire}`, () => reach(wire))));
+}
+
+// The first measurement stands below the drawing, with a large button for each answer; or else how things are.
+function paintProbe() {
+  const [row] = state.advice ?? [];
+  byId("probe-go").replaceChildren(...(row ? [make("b", { textContent: `Measure ${placeOfProbe(row)}` }), ` ${leftAfter(row)}`] : [byId("status").textContent]));
+  byId("probe-go").disabled = !row;
+  byId("probe-answers").hidden = !row;
+}
+
+const placeOfProbe = (row) => (state.patterns.length > 1 ? `${spoken(row.wire)} in ${row.pattern}` : spoken(row.wire));
+const leftAfter = (row) => `if 0: ${row.zero} left, if 1: ${row.one} left${row.complete ? "" : ` of the first ${row.of}`}`;
+
+// Enters what was read at the first measurement, and goes to the next.
+let isFollowing = false;
+
+async function answer(bit) {
+  const [row] = state.advice ?? [];
+  if (!row) { say(state.advice === null ? "The next measurement is not known yet." : "There is no measurement to answer: click the wire."); return; }
+  if (row.pattern !== pattern().name) await ask({ act: "pattern", how: "choose", name: row.pattern });
+  isFollowing = true;
+  ask({ act: "see", wire: row.wire, bit });
+}
+
+function nextWrong() {
+  const count = state.patterns.length;
+  const order = state.patterns.map((_, index) => (state.now + 1 + index) % count);
+  const found = order.find((index) => state.patterns[index].against.length);
+  if (found === undefined) say("No reading is wrong.");
+  else if (found !== state.now) ask({ act: "pattern", how: "choose", name: state.patterns[found].name });
+  else goTo(wireOf(pattern().against[0]));
 }
 
 async function visit(row) {
@@ -410,8 +446,11 @@ function turn(wire) {
 function keyAtMark(event, wire) {
   const bits = new Map([["0", 0], ["1", 1], ["x", null], ["-", null], ["Delete", null], ["Backspace", null]]);
   if (event.ctrlKey || event.metaKey || event.altKey) return;
-  if (bits.has(event.key) && canEdit()) ask({ act: "see", wire: nameOf(wire), bit: bits.get(event.key) });
-  else if ((event.key === "Enter" || event.key === " ") && event.currentTarget.tagName !== "BUTTON") turn(wire);
+  const [first] = state.advice ?? [];
+  if (bits.has(event.key) && canEdit()) {
+    isFollowing = first?.wire === nameOf(wire) && first.pattern === pattern().name && bits.get(event.key) !== null;
+    ask({ act: "see", wire: nameOf(wire), bit: bits.get(event.key) });
+  } else if ((event.key === "Enter" || event.key === " ") && event.currentTarget.tagName !== "BUTTON") turn(wire);
   else if (event.key.startsWith("Arrow") && marks.has(wire)) step(event.key, wire);
   else return;
   event.preventDefault();
@@ -476,6 +515,7 @@ const pointers = new Map();
 
 function place() {
   byId("world").setAttribute("transform", `translate(${view.x} ${view.y}) scale(${view.scale})`);
+  byId("world").style.setProperty("--finger", `${Math.min(MOST_FINGER, Math.max(RADIUS, FINGER / view.scale))}px`);
 }
 
 function zoom(factor, x = byId("sheet").clientWidth / 2, y = byId("sheet").clientHeight / 2) {
@@ -510,14 +550,17 @@ function goTo(name) {
   const group = (mark ?? shown)?.group;
   if (!group) return false;
   const at = group.getBoundingClientRect(), sheet = byId("sheet").getBoundingClientRect();
-  if (view.scale < 0.5) view.scale = 0.8;
+  const least = matchMedia("(pointer: coarse)").matches ? 1.1 : 0.8, isSmall = view.scale < (least > 1 ? least : 0.5);
+  if (isSmall) view.scale = least;
   const [x, y] = mark ? [mark.x, mark.y] : [shown.box.x + shown.box.w / 2, shown.box.y + shown.box.h / 2];
   const isInside = at.left > sheet.left + 20 && at.right < sheet.right - 20 && at.top > sheet.top + 20 && at.bottom < sheet.bottom - 20;
-  if (!isInside || view.scale === 0.8) {
+  if (!isInside || isSmall) {
     view.x = sheet.width / 2 - x * view.scale;
     view.y = sheet.height / 2 - y * view.scale;
     place();
   }
+  // On a small screen the drawing may be scrolled away.
+  byId("sheet").scrollIntoView({ block: "nearest" });
   group.focus({ preventScroll: true });
   return true;
 }
@@ -658,6 +701,9 @@ function buttons() {
     byId("words").hidden = !byId("words").hidden;
     byId("help").setAttribute("aria-expanded", String(!byId("words").hidden));
   });
+  on("probe-go", () => visit(state.advice[0]));
+  on("probe-0", () => answer(0));
+  on("probe-1", () => answer(1));
   on("closer", () => zoom(1.3));
   on("farther", () => zoom(1 / 1.3));
   on("fit", () => fit());
@@ -690,14 +736,25 @@ function listeners() {
     if (["INPUT", "TEXTAREA"].includes(event.target.tagName) || !canEdit()) return;
     take(event.clipboardData.getData("text"));
   });
-  addEventListener("keydown", (event) => {
-    if (event.key === "Escape") closeMenu();
-    if (!(event.ctrlKey || event.metaKey) || ["INPUT", "TEXTAREA"].includes(event.target.tagName) || !canEdit()) return;
-    if (event.key === "z" && !event.shiftKey) ask({ act: "undo" });
-    else if (event.key === "y" || (event.key.toLowerCase() === "z" && event.shiftKey)) ask({ act: "redo" });
-    else return;
-    event.preventDefault();
-  });
+  addEventListener("keydown", keyAnywhere);
+}
+
+// The keys that hold wherever the focus is, unless a wire or a part has taken them, or text is typed.
+function keyAnywhere(event) {
+  const isTyping = ["INPUT", "TEXTAREA"].includes(event.target.tagName) && event.target.type !== "checkbox";
+  if (event.key === "Escape") {
+    if (byId("menu").hidden && !byId("paste-dialog").open) document.activeElement?.blur();
+    closeMenu();
+  }
+  if (isTyping || event.defaultPrevented || event.altKey || !state || byId("paste-dialog").open || !byId("menu").hidden) return;
+  const key = event.ctrlKey || event.metaKey ? `ctrl-${event.key.toLowerCase()}${event.shiftKey ? "-shift" : ""}` : event.key;
+  const undo = () => ask({ act: "undo" }), redo = () => ask({ act: "redo" });
+  const acts = { "0": () => answer(0), "1": () => answer(1), u: undo, "ctrl-z": undo, "ctrl-y": redo, "ctrl-z-shift": redo };
+  const looks = { "/": () => byId("search").focus(), n: nextWrong };
+  const act = looks[key] ?? (canEdit() ? acts[key] : undefined);
+  if (!act) return;
+  event.preventDefault();
+  act();
 }
 
 async function begin() {

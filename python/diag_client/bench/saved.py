@@ -14,6 +14,7 @@ import json
 import os
 import pathlib
 import re
+from typing import IO
 
 from ..files import write_whole
 
@@ -33,7 +34,7 @@ class Shelf:
 
     def __init__(self, file: str | os.PathLike[str]) -> None:
         self.why = ""
-        self._lock = None
+        self._lock: IO[str] | None = None
         path = pathlib.Path(file).resolve()
         name = f"{path.name}-{hashlib.sha256(os.fsencode(path)).hexdigest()[:8]}"
         for number in itertools.count(1):
@@ -45,7 +46,7 @@ class Shelf:
                 return
             except BlockingIOError:
                 # Another bench of this device is running.
-                continue
+                self.close()
             except OSError as error:
                 self.why = f"boards are not saved: {error}"
                 return

@@ -20,7 +20,8 @@ from typing import Any, TypeVar
 from .. import progress
 from ..advice import Proposal
 from ..boards.joint import Joint, JointProposal
-from ..case import change, checked
+from ..case import Case, change, checked
+from ..clash import clash_of
 from ..devices import other_names
 from ..errors import DiagError, Ended, Inconsistent, Refused
 from ..replies import Listing, Request, Verdict
@@ -196,6 +197,8 @@ class Answers:
     blame: dict[str, Verdict] = dataclasses.field(default_factory=dict)
     expected: list[dict[str, int]] = dataclasses.field(default_factory=list)
     advice: list[Json] | None = None
+    # What clashes if nothing explains the case.
+    clash: dict[str, Case] = dataclasses.field(default_factory=dict)
     is_late: bool = False
 
 
@@ -476,6 +479,9 @@ class Board:
     def _advice(self) -> list[Json]:
         """The best measurements, over all patterns."""
         answers = self._answered()
+        if answers.cost is None and not answers.is_late:
+            with contextlib.suppress(TimeoutError):
+                answers.clash = clash_of(self._read(), LONGEST)
         if not answers.cost or (answers.complete and sum(cost == answers.cost for cost, _ in answers.candidates) < 2):
             return []
         patterns = self._read()
@@ -522,7 +528,9 @@ class Board:
             "cost": answers.cost, "late": answers.is_late, "complete": answers.complete, "shares": list(shares.items()),
             "candidates": [{"cost": cost, "parts": parts} for cost, parts in answers.candidates],
             "blame": [(part, str(verdict)) for part, verdict in answers.blame.items() if verdict is not Verdict.NEVER],
-            "advice": answers.advice, "log": record.script(bench.title), "undo": len(self._before), "redo": len(self._after),
+            "advice": answers.advice,
+            "clash": [(name, list(case.seen.items()), list(case.held.items())) for name, case in answers.clash.items()],
+            "log": record.script(bench.title), "undo": len(self._before), "redo": len(self._after),
             "shown": self.view.shown, "levels": self.view.with_levels,
         }  # fmt: skip
 

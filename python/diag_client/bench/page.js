@@ -326,11 +326,19 @@ function paintStatus() {
   const readings = state.patterns.reduce((sum, row) => sum + row.seen.length, 0);
   let text = `${count} explanations, each with ${need}.`;
   if (state.late) text = "It takes too long to explain all patterns together. Take a pattern away, or say which parts were tested.";
-  else if (state.cost === null) text = "Nothing explains this. Check the readings, and the parts that were tested.";
+  else if (state.cost === null) text = "Nothing explains this. Check the readings, and the parts that were tested" + (state.clash.length ? ": these clash." : ".");
   else if (!readings) text = "Enter the inputs and what you read: click the wires.";
   else if (state.cost === 0) text = "Nothing is wrong, as far as was read.";
   else if (count === "1") text = `1 explanation: ${best[0].parts.join(", ")} ${best[0].parts.length === 1 ? "is" : "are"} faulty.`;
   byId("status").textContent = text;
+  // Each may be taken back where it is named.
+  byId("clash").replaceChildren(...state.clash.flatMap(([name, seen, held]) => [
+    ...seen.map(([wire, bit]) => chip(`${state.patterns.length > 1 ? `${name}: ` : ""}${spoken(wire)}=${bit}`, `${spoken(wire)} was not read`, async () => {
+      await ask({ act: "pattern", how: "choose", name });
+      ask({ act: "see", wire, bit: null });
+    })),
+    ...held.map(([part, mode]) => chip(`${part} tested ${mode}`, `${part} was not tested`, () => ask({ act: "hold", part, mode: null }))),
+  ]));
 }
 
 function paintAdvice() {

@@ -133,6 +133,7 @@ function build() {
   for (const pin of drawing.pins) pinOf(pin, world);
   for (const end of drawing.apart) world.append(apartOf(end));
   for (const line of drawing.lines) if (line.mark) addMark(world, line.wire, line.mark[0] + 22, line.mark[1]);
+  buildChips();
   document.title = `${drawing.title} – bench`;
   byId("title").textContent = drawing.title;
   byId("times").hidden = drawing.frames === null;
@@ -236,6 +237,7 @@ function paint() {
   }
   const blame = new Map(state.blame), held = new Map(state.held);
   for (const { group, box } of boxes.values()) paintBox(group, box, blame, held);
+  paintChips(seen, expected, against, ranks, blame);
   paintPatterns();
   paintInputs(seen);
   paintStatus();
@@ -329,7 +331,7 @@ function paintStatus() {
   else if (state.cost === null) text = "Nothing explains this. Check the readings, and the parts that were tested" + (state.clash.length ? ": these clash." : ".");
   else if (!readings) text = "Enter the inputs and what you read: click the wires.";
   else if (state.cost === 0) text = "Nothing is wrong, as far as was read.";
-  else if (count === "1") text = `1 explanation: ${best[0].parts.join(", ")} ${best[0].parts.length === 1 ? "is" : "are"} faulty.`;
+  else if (count === "1") text = `1 explanation: ${best[0].parts.map(partName).join(", ")} ${best[0].parts.length === 1 ? "is" : "are"} faulty.`;
   byId("status").textContent = text;
   // Each may be taken back where it is named.
   byId("clash").replaceChildren(...state.clash.flatMap(([name, seen, held]) => [
@@ -368,7 +370,7 @@ function paintProbe() {
   byId("probe-answers").hidden = !row;
 }
 
-const placeOfProbe = (row) => (state.patterns.length > 1 ? `${spoken(row.wire)} in ${row.pattern}` : spoken(row.wire));
+const placeOfProbe = (row) => probePlace(row.wire) + (state.patterns.length > 1 ? ` in ${row.pattern}` : "");
 const leftAfter = (row) => `if 0: ${row.zero} left, if 1: ${row.one} left${row.complete ? "" : ` of the first ${row.of}`}`;
 
 // Enters what was read at the first measurement, and goes to the next.
@@ -394,6 +396,7 @@ function nextWrong() {
 async function visit(row) {
   if (row.pattern !== pattern().name) await ask({ act: "pattern", how: "choose", name: row.pattern });
   if (drawing.frames !== null) setTime(timeOf(row.wire));
+  showPin(wireOf(row.wire));
   if (!goTo(wireOf(row.wire))) say(`${wireOf(row.wire)} is not in this part of the drawing: open its block, or show the whole device.`);
 }
 
@@ -411,7 +414,7 @@ function chip(text, label, forget) {
 function paintCandidates() {
   const areMany = state.patterns.filter((row) => row.seen.length).length > 1;
   byId("candidates").replaceChildren(...state.candidates.map((row) => {
-    const names = row.parts.length ? row.parts.join(", ") : "nothing is faulty";
+    const names = row.parts.map(partName).join(", ") || "nothing is faulty";
     const button = make("button", { textContent: state.levels && !areMany ? `${names} (cost ${row.cost})` : names });
     for (const [name, on] of [["mouseenter", true], ["focus", true], ["mouseleave", false], ["blur", false]])
       button.addEventListener(name, () => light(row.parts, on));
@@ -447,8 +450,8 @@ function paintRest(held) {
 
 // What people do.
 
-function turn(wire) {
-  if (!wasDragged && canEdit()) ask({ act: "turn", wire: nameOf(wire) });
+function turn(wire, isApart = false) {
+  if ((isApart || !wasDragged) && canEdit()) ask({ act: "turn", wire: nameOf(wire) });
 }
 
 function keyAtMark(event, wire) {
@@ -633,17 +636,27 @@ function save() {
   setTimeout(() => URL.revokeObjectURL(link.href), 10000);
 }
 
+// All of the drawing, whatever is shown of it.
+function picture() {
+  const { x, y, width, height } = byId("world").getBBox(), world = byId("world").cloneNode(true);
+  for (const name of ["id", "transform"]) world.removeAttribute(name);
+  return draw("svg", { class: "sheet picture", viewBox: `${x - 4} ${y - 4} ${width + 8} ${height + 8}` }, world);
+}
+
 function paper() {
   const row = (tag, cells) => make("tr", {}, ...cells.map((text) => make(tag, { textContent: text })));
   const readings = state.patterns.flatMap((one) => one.seen.map(([wire, bit]) => {
     const should = new Map(one.expected).get(wire);
     return row("td", [one.name, spoken(wire), bit, should ?? "", one.against.includes(wire) ? "wrong" : ""]);
   }));
-  const found = state.candidates.map((one) => make("li", { textContent: one.parts.join(", ") || "nothing is faulty" }));
+  const found = state.candidates.map((one) => make("li", { textContent: one.parts.map(partName).join(", ") || "nothing is faulty" }));
+  const advice = (state.advice ?? []).map((one) => make("li", { textContent: `${placeOfProbe(one)}: ${leftAfter(one)}` }));
   byId("paper").replaceChildren(
     make("h1", { textContent: drawing.title }), make("p", { textContent: `Date: ${new Date().toLocaleString()}` }),
     make("h2", { textContent: "Readings" }), make("table", {}, row("th", ["pattern", "wire", "read", "should be", ""]), ...readings),
     make("h2", { textContent: "Explanations" }), make("p", { textContent: byId("status").textContent }), make("ul", {}, ...found),
+    make("h2", { textContent: "Measure next" }), make("ol", {}, ...advice), picture(),
+    make("div", {}, ...[...byId("chips").children].map((shape) => shape.cloneNode(true))),
     make("h2", { textContent: "Tested parts" }), make("p", { textContent: state.held.map(([part, mode]) => `${part}: ${mode}`).join(", ") || "none" }),
     make("h2", { textContent: "What was replaced" }), make("div", { className: "write", textContent: byId("replaced").value }),
     make("p", { textContent: "Name and date:" }));
@@ -715,6 +728,7 @@ function buttons() {
   on("closer", () => zoom(1.3));
   on("farther", () => zoom(1 / 1.3));
   on("fit", () => fit());
+  on("with-chips", () => { showChips(); fit(true); });
   on("cone", () => load({ fit: true }));
   on("menu-ok", () => hold("ok"));
   on("menu-bad", () => hold("bad"));

@@ -36,7 +36,8 @@ MOST_BODY = 1024 * 1024
 PATIENCE = 10.0
 # So many requests are served at once; more are turned away.
 MOST_AT_ONCE = 200
-FILES = {"": ("index.html", "text/html"), "page.js": ("page.js", "text/javascript"), "page.css": ("page.css", "text/css")}
+SCRIPTS = ("page.js", "chips.js")
+FILES = {"": ("index.html", "text/html"), "page.css": ("page.css", "text/css")} | {name: (name, "text/javascript") for name in SCRIPTS}
 HEADERS = {
     "Content-Security-Policy": "default-src 'none'; script-src 'self'; style-src 'self'; connect-src 'self'; img-src data:; "
     "base-uri 'none'; form-action 'none'; frame-ancestors 'none'",
@@ -238,6 +239,7 @@ class Handler(http.server.BaseHTTPRequestHandler):
         drawing = bench.drawing(is_open, board.cone() if act.get("wrong") is True else None)
         kinds = bench.scene.device.blocks
         own = {"inputs": bench.scene.inputs, "outputs": bench.scene.outputs, "frames": bench.frames, "has_levels": bench.has_levels}
+        own["chips"] = bench.scene.chips
         named = {"title": bench.title, "others": bench.other_names, "open": sorted(is_open & kinds.keys()), "is_design": bool(kinds)}
         return drawing | own | named
 

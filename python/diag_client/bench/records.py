@@ -9,7 +9,7 @@ from collections.abc import Collection, Mapping, Sequence
 from ..boards.tables import MARK, SEPARATOR, BadTable, cells_of, rows_of
 from ..case import NAME_RULE, SESSION_NAME, Board, Case, Mode
 from ..errors import BadScript, shown
-from ..readings import at_odds, bit_of, words_of
+from ..readings import at_odds, bit_of, without_buses, words_of
 
 MOST_PATTERNS = 100
 # A record is a script of at most so many lines.
@@ -176,7 +176,10 @@ def read_readings(text: str, known: Known) -> list[tuple[str | None, dict[str, i
             return [(name, dict(seen)) for name, seen in rows_of("the table", cells_of("the table", text, names), names)]
     except (BadTable, BadScript) as error:
         raise Bad(f"{error}; nothing was taken. Write a=0 b=1, or a table of wires by patterns") from error
-    words = words_of("\n".join(lines))
+    try:
+        words = without_buses(words_of("\n".join(lines)), {*known.wires, *known.others})
+    except ValueError as error:
+        raise Bad(f"{error}; nothing was taken") from None
     pairs = [word.rpartition("=") for word in words]
     for word, (wire, _, _) in zip(words, pairs, strict=True):
         if not wire:

@@ -25,7 +25,7 @@ from ..errors import DiagError, Ended, Inconsistent, Refused, sentence, shown
 from ..files import write_whole
 from ..pictures import graphviz, picture
 from ..progress import Progress
-from ..readings import UNREAD, at_odds, words_of
+from ..readings import NUMBER, UNREAD, at_odds, without_buses, words_of
 from ..replies import AnyLines, Lines
 from ..service import LIMITS, Service
 from ..session import Session
@@ -441,6 +441,8 @@ class Shell(cmd.Cmd):
 
     def _asked(self, words: list[str]) -> Asked:
         command = words[0]
+        if command == "see" and any(self._is_number(word) for word in words[1:]):
+            words = [command, *without_buses(words[1:], {*self.service.wires, *self.service.other_names})]
         if command in ("open", "close"):
             raise ValueError("there is one session here, which is open to the end")
         if command in ("see", "hold") and (why := at_odds(words[1:], self.service.other_names)):
@@ -450,6 +452,12 @@ class Shell(cmd.Cmd):
         if len(words) > 2 and command in self.for_each:
             return Asked([[command, word] for word in words[1:]], command in CHANGES)
         return Asked([words])
+
+    @staticmethod
+    def _is_number(word: str) -> bool:
+        """Whether a word may be of a bus: only then the program is asked for the names of the wires."""
+        name, _, value = word.rpartition("=")
+        return value not in ("0", "1") and bool(NUMBER.fullmatch(value)) or name.endswith("]")
 
     def _asked_readings(self, words: Sequence[str]) -> Asked:
         """Readings. One that says that nothing was read takes back what was."""

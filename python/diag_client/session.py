@@ -10,7 +10,7 @@ import types
 from collections.abc import Iterable, Iterator, Mapping, Sequence
 from typing import TYPE_CHECKING, NoReturn
 
-from . import advice, display
+from . import advice, clash, display
 from .case import CHANGES, Case, Mode, change
 from .errors import Changed, DiagError, Inconsistent
 from .readings import at_odds
@@ -330,6 +330,19 @@ class Session:
         as it is, and there has to be room for one more (`Refused` 8 if there is none).
         """
         return display.Rows(advice.rank(self, among, limit))
+
+    def clash(self) -> Case | None:
+        """The fewest readings and tests of the case that no set of faulty parts explains, by the program's answers to parts of the case.
+
+        None if something explains the case. In a large case there may be fewer, but none of these can be left out.
+
+        >>> with Service("examples/c17.bench") as service, service.session() as session:
+        ...     session.see({"1": 0, "2": 0, "3": 0, "6": 0, "7": 0, "22": 1, "23": 0})
+        ...     session.hold({"10": "ok", "16": "ok", "22": "ok"})
+        ...     print(session.clash())
+        Case(seen={'1': 0, '2': 0, '22': 1}, held={'10': 'ok', '16': 'ok', '22': 'ok'})
+        """
+        return clash.clash_of([self]).get(self.pattern)
 
     def copy(self, name: str | None = None) -> Session:
         """Opens another session that has seen and holds the same, to ask what if.

@@ -4,9 +4,11 @@ import atexit
 import collections
 import os
 import pathlib
+import shutil
 import signal
 import subprocess
 import sys
+import tempfile
 import threading
 import time
 import unittest
@@ -15,6 +17,9 @@ TOP = pathlib.Path(__file__).resolve().parents[2]
 EXAMPLES = TOP / "examples"
 C17 = EXAMPLES / "c17.bench"
 TESTS = TOP / "python/tests"
+# No board of a test is kept.
+os.environ["DIAG_BOARDS"] = tempfile.mkdtemp(prefix="diag-boards-")
+atexit.register(shutil.rmtree, os.environ["DIAG_BOARDS"], True)
 # The built program itself, and not the launcher, which asks whether a source is newer. Some tests go to another folder.
 PROGRAM = os.environ["DIAG_PROGRAM"] = os.path.abspath(os.environ.get("DIAG_PROGRAM") or TOP / "crates/diag/out/diag")
 needs_program = unittest.skipUnless(os.access(PROGRAM, os.X_OK), f"there is no program {PROGRAM}: `./diag --build`, or set DIAG_PROGRAM")

@@ -22,8 +22,8 @@ class Texts(unittest.TestCase):
         return str(caught.exception)
 
     def test_pairs(self):
-        self.assertEqual(records.read_readings(" a=0, b=1\n", KNOWN), [("", {"a": 0, "b": 1})])
-        self.assertEqual(records.read_readings("a=x b=", KNOWN), [("", {"a": None, "b": None})])
+        self.assertEqual(records.read_readings(" a=0, b=1\n", KNOWN), [(None, {"a": 0, "b": 1})])
+        self.assertEqual(records.read_readings("a=x b=", KNOWN), [(None, {"a": None, "b": None})])
         self.assertIn("c", self.refused("a=0 c=1"))
         self.assertIn("a=2", self.refused("a=2"))
         self.assertIn("'b'", self.refused("a=1 b"))
@@ -41,7 +41,7 @@ class Texts(unittest.TestCase):
     def test_names_have_times(self):
         """The drawing shows a wire without its time."""
         known = records.Known({"a@0001", "a@0002"}, {"g"}, {"a"})
-        self.assertEqual(records.read_readings("a@0002=1", known), [("", {"a@0002": 1})])
+        self.assertEqual(records.read_readings("a@0002=1", known), [(None, {"a@0002": 1})])
         with self.assertRaisesRegex(Bad, "a has a reading for each time: write a@0001 for the first"):
             records.read_readings("a=1", known)
         for text in ("a@1=1", "a@0003=1"):
@@ -290,8 +290,32 @@ class OnC17(unittest.TestCase):
             self.bench.open_board()
             self.assertLessEqual(len(self.bench.boards), boards.MOST_BOARDS)
 
+    def test_boards_are_saved(self):
+        self.enter()
+        self.do("replaced", text="U7")
+        again = boards.Bench(C17)
+        self.addCleanup(again.close)
+        # A second bench of the device has a folder of its own, and one that begins after the end of the first has that of the first.
+        self.assertNotEqual(again.shelf.folder, self.bench.shelf.folder)
+        with self.assertRaises(boards.Gone):
+            again.board(self.board.id)
+        again.shelf.folder = self.bench.shelf.folder
+        self.assertEqual(again.board(self.board.id).record, self.board.record)
+        for name in ("../../etc/passwd", "..", "a" * 30):
+            with self.assertRaises(boards.Gone):
+                again.board(name)
+        self.assertEqual(self.bench.shelf.place(self.board.id).stat().st_mode & 0o77, 0)
+
+    def test_it_says_if_nothing_can_be_saved(self):
+        with mock.patch("diag_client.bench.saved.write_whole", side_effect=OSError(28, "No space left on device")):
+            self.enter()
+            self.assertIn("not saved: [Errno 28]", self.bench.shelf.why)
+        self.do("undo")
+        self.assertEqual(self.bench.shelf.why, "")
+
     def test_refused(self):
         before = self.enter()
+        del before["said"]
         for act in (
             {}, {"act": None}, {"act": "__class__"}, {"act": "see"}, {"act": "see", "wire": "99", "bit": 0},
             {"act": "see", "wire": 1, "bit": 7},

@@ -227,7 +227,8 @@ class Names(unittest.TestCase):
     """By which names a server may be called that takes requests from everywhere."""
 
     def test_everywhere(self):
-        found = server.Server(mock.Mock(), "0.0.0.0")
+        bench = mock.Mock(**{"shelf.addresses.return_value": {}})
+        found = server.Server(bench, "0.0.0.0")
         self.addCleanup(found.server_close)
         port = found.port
         name = f"{socket.gethostname()}:{port}".upper()

@@ -266,7 +266,7 @@ class Board(unittest.TestCase):
             alone, "level 1 22", alone, "ok", alone, "level 1 22", alone, "22 should be 0, and was seen as 1",
             "ok", "diag 22", "refused: no part (error 10): 99", "end", "probe w: which wire?", "refused: no wire (error 9): 99",
             "probe 19 3 1", "refused: no wire (error 9): 99", "ok",
-            "probe 16 - 1", "ok", "no set of faulty parts explains what was seen and held"])
+            "probe 16 - 1", "ok", "no set of faulty parts explains what was seen and held: clash says why"])
         self.assertEqual(status, 1)
 
     def test_a_refusal_is_of_no_pattern(self):

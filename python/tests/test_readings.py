@@ -10,9 +10,10 @@ from support import C17, needs_program, stand_in
 from diag_client import BadScript, BadTable, Board, Case, Service
 from diag_client.bench import records
 from diag_client.boards.tables import read_table
-from diag_client.readings import bit_of
+from diag_client.readings import bit_of, bus_of, without_buses
 
 WIRES = ["1", "3", "22"]
+BUSES = {"a[0]", "a[1]", "a[2]", "b0", "b1", "c_1", "c_2", "1_d", "2_d", "e", "10", "11"}
 LOW_HIGH = Board({"low": Case({"1": 0, "22": 1}), "high": Case({"1": 1, "3": 0, "22": 0})})
 # Each of these texts says the same.
 TABLES = {
@@ -43,6 +44,41 @@ REFUSED = {
     "1,,3\n0,,1\n": "row 1, column 2: no wire ''",
     "1,3\n0,1,1\n": "row 2, column 3: 3 cells, and the first row has 2",
 }
+
+
+class Buses(unittest.TestCase):
+    """Wires that are read together, as a number."""
+
+    def test_a_number_is_the_bits_of_its_wires(self):
+        for words, wanted in (
+            ("a=0x5", "a[0]=1 a[1]=0 a[2]=1"), ("a[2:1]=2", "a[1]=0 a[2]=1"), ("a[1:2]=2", "a[1]=0 a[2]=1"), ("b=0b10 e=1", "b0=0 b1=1 e=1"),
+            ("c=2", "c_1=0 c_2=1"), ("d=3", "1_d=1 2_d=1"), ("b[1:0]=1", "b0=1 b1=0"), ("b[1:0]=X", "b0=X b1=X"),
+            # A bit alone is of a wire, and wire 10 is no bit of a bus 1.
+            ("a=1", "a=1"), ("1=0x1", "1=0x1"), ("e=0", "e=0"),
+        ):  # fmt: skip
+            with self.subTest(words):
+                self.assertEqual(" ".join(without_buses(words.split(), BUSES)), wanted)
+        self.assertEqual(bus_of("e", BUSES) + bus_of("a[5:0]", BUSES) + bus_of("", BUSES), [])
+
+    def test_what_does_not_fit_is_refused(self):
+        for word, why in (("a=8", "8 needs 4 bits, and a has 3 wires"), ("a=0xg", "a is a bus of 3 wires: write a number, such as 12"), ("a[1:0]=4", "needs 3 bits")):
+            with self.subTest(word), self.assertRaisesRegex(ValueError, why):
+                without_buses([word], BUSES)
+
+    def test_in_tables_and_on_the_page(self):
+        with tempfile.TemporaryDirectory() as folder:
+            table = pathlib.Path(folder, "t.csv")
+            table.write_text("pattern,a,e,b[1:0]\nlow,0x4,1,\nhigh,1,X,3\n")
+            wanted = {"low": Case({"a[0]": 0, "a[1]": 0, "a[2]": 1, "e": 1}), "high": Case({"a[0]": 1, "a[1]": 0, "a[2]": 0, "b0": 1, "b1": 1})}
+            self.assertEqual(read_table(table, BUSES), Board(wanted))
+            table.write_text("a,e\n9,1\n")
+            with self.assertRaisesRegex(BadTable, r"row 2, column 1 \(a\): 9 needs 4 bits"):
+                read_table(table, BUSES)
+        known = records.Known(BUSES, set(), BUSES)
+        self.assertEqual(records.read_readings("a=0x3, e=0", known), [(None, {"a[0]": 1, "a[1]": 1, "a[2]": 0, "e": 0})])
+        self.assertEqual(records.read_readings("a e\n3 0", known), [("", {"a[0]": 1, "a[1]": 1, "a[2]": 0, "e": 0})])
+        with self.assertRaisesRegex(records.Bad, "needs 4 bits"):
+            records.read_readings("a=0xf", known)
 
 
 class Tables(unittest.TestCase):

@@ -172,7 +172,9 @@ class Lines(unittest.TestCase):
     def test_inconsistent(self):
         self.say("see 1=0 2=0 3=0 6=0 7=0 22=1 23=0", "hold 10=ok 22=ok 23=ok")
         self.assertEqual(self.say("min"), ["inconsistent"])
-        self.assertEqual(self.say("best"), ["no set of faulty parts explains what was seen and held"])
+        self.assertEqual(self.say("best"), ["no set of faulty parts explains what was seen and held: clash says why"])
+        self.assertEqual(self.say("clash"), ["nothing explains 1=0 22=1 23=0 10=ok 22=ok 23=ok"])
+        self.assertEqual(self.say("unhold 10", "clash")[-1], "nothing clashes: a set of faulty parts explains what was seen and held")
 
     def test_nothing_fits(self):
         """Where no bits of the wires fit the device at all, no names are there to be looked through."""

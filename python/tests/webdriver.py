@@ -23,7 +23,7 @@ IS_HERE = shutil.which("chromium") is not None and shutil.which("chromedriver") 
 class Browser:
     """One window after another of a browser that is ended by `close`."""
 
-    def __init__(self, width=1280, height=800, *words):
+    def __init__(self, width=1280, height=800, *words, is_phone=False):
         with socket.socket() as probe:
             probe.bind(("127.0.0.1", 0))
             port = probe.getsockname()[1]
@@ -37,6 +37,9 @@ class Browser:
         words = [*words, "--headless=new", "--disable-gpu", size, data]
         words += ["--no-sandbox"] if os.geteuid() == 0 else []
         options = {"goog:chromeOptions": {"args": words, "binary": shutil.which("chromium")}, "goog:loggingPrefs": {"browser": "ALL"}}
+        if is_phone:
+            screen = {"width": width, "height": height, "pixelRatio": 2, "touch": True, "mobile": True}
+            options["goog:chromeOptions"]["mobileEmulation"] = {"deviceMetrics": screen}
         for _ in range(200):
             with contextlib.suppress(urllib.error.URLError, ConnectionError):
                 if self._ask("GET", "/status")["ready"]:

@@ -13,19 +13,22 @@ import itertools
 import os
 import secrets
 import threading
+import time
 from collections.abc import Callable, Mapping, Sequence
 from typing import Any, TypeVar
 
 from .. import progress
 from ..advice import Proposal
 from ..boards.joint import Joint, JointProposal
-from ..case import change, checked
+from ..case import Case, change, checked
+from ..clash import clash_of
 from ..devices import other_names
 from ..errors import DiagError, Ended, Inconsistent, Refused
 from ..replies import Listing, Request, Verdict
 from ..session import Session
 from .drawing import Json, Scene
-from .records import MOST_LINES, MOST_TEXT, Bad, Known, Record, read_readings, read_script, take_readings
+from .records import MOST_LINES, MOST_TEXT, Bad, Known, Record, has_case, read_readings, read_script, take_readings, told_of_change
+from .saved import Shelf
 from .shared import ADVICE, CLICK, SEARCH, Dropped, Lost, SharedService
 
 # The program keeps this many sessions; some are left for questions that need one for a moment, or one for each pattern.
@@ -73,6 +76,7 @@ class Bench:
         self.lock = threading.Lock()
         self._drawing_lock = threading.Lock()
         self.scene = Scene(file)
+        self.shelf = Shelf(file)
         self.other_names = other_names(file)
         self.title = self.service.title
         self.boards: dict[str, Board] = {}
@@ -90,10 +94,11 @@ class Bench:
 
     def close(self) -> None:
         """Ends the program."""
+        self.shelf.close()
         self.service.close()
 
-    def open_board(self) -> Board:
-        """A new board. Of too many, one that is empty and was not used for longest goes."""
+    def open_board(self, name: str | None = None, record: Record | None = None) -> Board:
+        """A new board, or one that was saved. Of too many, one that is empty and was not used for longest goes."""
         oldest = None
         with self.lock:
             if len(self.boards) >= MOST_BOARDS:
@@ -102,14 +107,16 @@ class Bench:
                     raise Bad(f"there are {MOST_BOARDS} boards with cases already: save yours, end the program and start it again")
                 oldest = min(empty, key=lambda board: board.used)
                 del self.boards[oldest.id], self._watched[oldest.watch_id]
-            board = Board(self)
+            board = self.boards.get(name or "") or Board(self, name, record or Record())
             self.boards[board.id] = self._watched[board.watch_id] = board
         if oldest is not None:
             oldest.give_back()
         return board
 
     def board(self, name: str, watching: bool = False) -> Board:
-        """The board of this id, or of this id for those who watch."""
+        """The board of this id, or of this id for those who watch. One that was saved comes back."""
+        if not watching and name not in self.boards and (text := self.shelf.text(name)) is not None:
+            self.open_board(name, read_script(text, self.known) if has_case(text) else Record())
         with self.lock:
             board = (self._watched if watching else self.boards).get(name)
             if board is None:
@@ -190,23 +197,28 @@ class Answers:
     blame: dict[str, Verdict] = dataclasses.field(default_factory=dict)
     expected: list[dict[str, int]] = dataclasses.field(default_factory=list)
     advice: list[Json] | None = None
+    # What clashes if nothing explains the case.
+    clash: dict[str, Case] = dataclasses.field(default_factory=dict)
     is_late: bool = False
 
 
 class Board:
     """One case, with undo. One request at a time changes it, or asks the program about it."""
 
-    def __init__(self, bench: Bench) -> None:
+    def __init__(self, bench: Bench, name: str | None, record: Record) -> None:
         self.bench = bench
         self.lock = threading.RLock()
         # The last request that may change it: advice that was begun before is dropped.
         self._newest = 0
         self._numbers = itertools.count(1)
-        self.id = secrets.token_urlsafe(12)
+        self.id = name or secrets.token_urlsafe(12)
         self.watch_id = secrets.token_urlsafe(12)
         self.used = 0
-        self.version = 0
-        self.record = Record()
+        # A page that was open when the bench ended takes what comes for new.
+        self.version = 0 if name is None else time.time_ns() // 1_000_000
+        self.record = record
+        # What was done, in words, beside the new state.
+        self._said = ""
         self.view = View()
         self._before: list[Record] = []
         self._after: list[Record] = []
@@ -244,8 +256,9 @@ class Board:
         if act.get("act") != "state":
             self._newest = next(self._numbers)
         with self.lock:
+            self._said = ""
             self._shown = self._done(act)
-            return self._shown
+            return self._shown | ({"said": self._said} if self._said else {})
 
     def _done(self, act: Mapping[str, Any]) -> Json:
         name = act.get("act")
@@ -257,8 +270,10 @@ class Board:
         record, view, version = self.record, self.view, self.version
         self._acts[name](act)
         if (self.record, self.view) != (record, view):
-            self._answers = self._shown = None
+            self._shown = None
             self.version += 1
+            if dataclasses.replace(self.record, replaced=record.replaced) != record or self.view != view:
+                self._answers = None
         try:
             return self._state()
         except Refused as error:
@@ -268,6 +283,7 @@ class Board:
         finally:
             if self.record != record:
                 self._changes.append((self.version, tab))
+                self.bench.shelf.keep(self.bench.shelf.place(self.id).name, "\n".join([*self.record.script(self.bench.title), ""]))
 
     def _advised(self) -> Json:
         """The state with the next measurement, or without it if a newer request came meanwhile."""
@@ -332,7 +348,10 @@ class Board:
         self._change(self.record.with_readings({wire: value}))
 
     def _readings(self, act: Mapping[str, Any]) -> None:
-        self._change(take_readings(self.record, read_readings(_text(act, "text"), self.bench.known)))
+        rows = read_readings(_text(act, "text"), self.bench.known)
+        before = self.record.board.patterns
+        self._change(take_readings(self.record, rows, act.get("here") is True))
+        self._said = told_of_change(before, self.record.board.patterns, sum(len(seen) for _, seen in rows))
 
     def _hold(self, act: Mapping[str, Any]) -> None:
         part, mode = _text(act, "part"), act.get("mode")
@@ -369,7 +388,12 @@ class Board:
         text = _text(act, "text")
         if len(text) > MOST_TEXT:
             raise Bad(f"a note has at most {MOST_TEXT} characters")
-        self._change(dataclasses.replace(self.record, replaced=text))
+        changed = dataclasses.replace(self.record, replaced=text)
+        if self._before and not self._after and dataclasses.replace(self._before[-1], replaced=self.record.replaced) == self.record:
+            # What is typed is sent piece by piece, and undo takes all of it back.
+            self.record = changed
+        else:
+            self._change(changed)
 
     def _load(self, act: Mapping[str, Any]) -> None:
         self._change(read_script(_text(act, "text"), self.bench.known))
@@ -455,6 +479,9 @@ class Board:
     def _advice(self) -> list[Json]:
         """The best measurements, over all patterns."""
         answers = self._answered()
+        if answers.cost is None and not answers.is_late:
+            with contextlib.suppress(TimeoutError):
+                answers.clash = clash_of(self._read(), LONGEST)
         if not answers.cost or (answers.complete and sum(cost == answers.cost for cost, _ in answers.candidates) < 2):
             return []
         patterns = self._read()
@@ -501,7 +528,9 @@ class Board:
             "cost": answers.cost, "late": answers.is_late, "complete": answers.complete, "shares": list(shares.items()),
             "candidates": [{"cost": cost, "parts": parts} for cost, parts in answers.candidates],
             "blame": [(part, str(verdict)) for part, verdict in answers.blame.items() if verdict is not Verdict.NEVER],
-            "advice": answers.advice, "log": record.script(bench.title), "undo": len(self._before), "redo": len(self._after),
+            "advice": answers.advice,
+            "clash": [(name, list(case.seen.items()), list(case.held.items())) for name, case in answers.clash.items()],
+            "log": record.script(bench.title), "undo": len(self._before), "redo": len(self._after),
             "shown": self.view.shown, "levels": self.view.with_levels,
         }  # fmt: skip
 

@@ -13,6 +13,7 @@ from typing import Any
 
 from ..devices import FLIP_FLOP, Part, read_device
 from ..pictures.cone import Wiring
+from ..pictures.packages import Leg, Package, packages_of
 from . import layout
 
 # A design with more parts than this is first drawn with its blocks closed.
@@ -90,6 +91,7 @@ class Scene:
         self.flip_flops = frozenset(part.name for part in self.device.parts if part.kind == FLIP_FLOP)
         self.open_at_first = frozenset(self.device.blocks if len(self.parts) <= OPEN_AT_FIRST else ())
         self.wiring = Wiring(self.device)
+        self.chips = [self._chip(each) for each in packages_of(path, self.device)]
 
     def _roles(self, part: Part, rows: Mapping[str, list[str]]) -> Roles:
         driven = [len(part.wires) - 1] if part.is_directed else outputs_of(rows.get(part.kind, []), len(part.wires))
@@ -101,6 +103,16 @@ class Scene:
         wires = (tuple(part.wires[port] for port in ports) for ports in (ins, outs))
         names = () if part.is_directed else self.device.ports[part.kind]
         return Roles(*wires, *(tuple(names[port] for port in ports if names) for ports in (ins, outs)))
+
+    def _chip(self, chip: Package) -> Json:
+        def legs(side: Iterable[Leg]) -> list[Json]:
+            return [
+                {"number": leg.number, "name": leg.name, "wire": leg.wire, "drives": self.drivers.get(leg.wire) in chip.parts}
+                for leg in side
+            ]  # fmt: skip
+
+        own = {"name": chip.reference, "printed": chip.printed, "title": chip.title, "parts": chip.parts}
+        return own | {"left": legs(chip.left), "right": legs(chip.right)}
 
     def draw(self, is_open: Collection[str], only: Collection[str] | None = None) -> Json:
         """What the page draws, with these blocks open, of all parts or of only some."""

@@ -4,6 +4,8 @@
 
 const byId = (id) => document.getElementById(id);
 const RADIUS = 11;
+// A finger needs marks of 24 pixels, and those that are nearest to each other are 28 apart.
+const FINGER = 12.5, MOST_FINGER = 14;
 // A drawing that would have to be smaller than OVERVIEW to be seen whole is first shown in part, at the scale READABLE.
 const LEAST_SCALE = 0.02, MOST_SCALE = 4, OVERVIEW = 0.25, READABLE = 0.6;
 
@@ -54,7 +56,7 @@ function written(text, fields) {
 }
 
 function say(text, isGood = false) {
-  byId("message").textContent = text;
+  byId("message-text").textContent = text;
   byId("message").className = isGood ? "good" : "";
   byId("message").hidden = !text;
 }
@@ -67,13 +69,13 @@ let adviceTimer = 0;
 async function post(where, act, isQuiet = false) {
   let answer;
   try {
-    answer = await fetch(where, { method: "POST", headers: { "Content-Type": "application/json" }, body: JSON.stringify(act) });
+    answer = await fetch(where, { method: "POST", headers: { "Content-Type": "application/json" }, body: JSON.stringify(act), keepalive: act.act === "replaced" });
   } catch {
     say("The program does not answer. Is it still running? Save keeps what was entered so far.");
     return null;
   }
   const got = await answer.json();
-  if (!isQuiet || got.error) say(got.error || "");
+  if (!isQuiet || got.error) say(got.error || got.said || "", !got.error);
   return got;
 }
 
@@ -90,6 +92,7 @@ function ask(act) {
   queue = queue.then(async () => {
     const got = await post("do", { ...seen, ...act }, act.act === "state");
     if (got && got.version !== undefined) await show(got);
+    return got;
   });
   return queue;
 }
@@ -130,6 +133,7 @@ function build() {
   for (const pin of drawing.pins) pinOf(pin, world);
   for (const end of drawing.apart) world.append(apartOf(end));
   for (const line of drawing.lines) if (line.mark) addMark(world, line.wire, line.mark[0] + 22, line.mark[1]);
+  buildChips();
   document.title = `${drawing.title} – bench`;
   byId("title").textContent = drawing.title;
   byId("times").hidden = drawing.frames === null;
@@ -215,6 +219,10 @@ async function show(got) {
   }
   coneOf = cone;
   if (drawing) paint();
+  if (isFollowing && state.advice !== null) {
+    isFollowing = false;
+    if (state.advice.length) visit(state.advice[0]);
+  }
   clearTimeout(adviceTimer);
   if (state.advice === null && canEdit()) adviceTimer = setTimeout(advise, 200);
 }
@@ -229,10 +237,12 @@ function paint() {
   }
   const blame = new Map(state.blame), held = new Map(state.held);
   for (const { group, box } of boxes.values()) paintBox(group, box, blame, held);
+  paintChips(seen, expected, against, ranks, blame);
   paintPatterns();
   paintInputs(seen);
   paintStatus();
   paintAdvice();
+  paintProbe();
   paintCandidates();
   paintRest(held);
 }
@@ -243,7 +253,7 @@ function paintMark(wire, mark, seen, expected, against, ranks) {
   const name = nameOf(wire), bit = seen.get(name), should = expected.get(name), rank = ranks.get(name);
   const { group } = mark;
   group.setAttribute("class", `mark ${bitClass(bit)} ${against.has(name) ? "against" : ""}`);
-  const parts = [draw("circle", { r: RADIUS }), written(bit ?? should ?? "–", { y: 4, class: bit === undefined ? "should" : "" })];
+  const parts = [draw("circle", { r: RADIUS }), draw("circle", { class: "touch" }), written(bit ?? should ?? "–", { y: 4, class: bit === undefined ? "should" : "" })];
   if (against.has(name)) parts.push(written("≠", { x: 0, y: -RADIUS - 4, class: "sign" }));
   if (rank !== undefined) {
     parts.push(draw("circle", { r: RADIUS + 5, class: "ring" }), written(`${rank}.`, { y: -RADIUS - 9, class: "rank" }));
@@ -318,20 +328,26 @@ function paintStatus() {
   const readings = state.patterns.reduce((sum, row) => sum + row.seen.length, 0);
   let text = `${count} explanations, each with ${need}.`;
   if (state.late) text = "It takes too long to explain all patterns together. Take a pattern away, or say which parts were tested.";
-  else if (state.cost === null) text = "Nothing explains this. Check the readings, and the parts that were tested.";
+  else if (state.cost === null) text = "Nothing explains this. Check the readings, and the parts that were tested" + (state.clash.length ? ": these clash." : ".");
   else if (!readings) text = "Enter the inputs and what you read: click the wires.";
   else if (state.cost === 0) text = "Nothing is wrong, as far as was read.";
-  else if (count === "1") text = `1 explanation: ${best[0].parts.join(", ")} ${best[0].parts.length === 1 ? "is" : "are"} faulty.`;
+  else if (count === "1") text = `1 explanation: ${best[0].parts.map(partName).join(", ")} ${best[0].parts.length === 1 ? "is" : "are"} faulty.`;
   byId("status").textContent = text;
+  // Each may be taken back where it is named.
+  byId("clash").replaceChildren(...state.clash.flatMap(([name, seen, held]) => [
+    ...seen.map(([wire, bit]) => chip(`${state.patterns.length > 1 ? `${name}: ` : ""}${spoken(wire)}=${bit}`, `${spoken(wire)} was not read`, async () => {
+      await ask({ act: "pattern", how: "choose", name });
+      ask({ act: "see", wire, bit: null });
+    })),
+    ...held.map(([part, mode]) => chip(`${part} tested ${mode}`, `${part} was not tested`, () => ask({ act: "hold", part, mode: null }))),
+  ]));
 }
 
 function paintAdvice() {
   const rows = state.advice ?? [];
   byId("advice").replaceChildren(...rows.map((row, rank) => {
-    const where = state.patterns.length > 1 ? `${spoken(row.wire)} in ${row.pattern}` : spoken(row.wire);
-    const of = row.complete ? "" : ` of the first ${row.of}`;
-    const go = make("button", { className: "go", title: "Show it in the drawing" }, make("b", { textContent: `${rank + 1}. ${where}` }), make("br"),
-      make("small", { textContent: `if 0: ${row.zero} left, if 1: ${row.one} left${of}` }));
+    const go = make("button", { className: "go", title: "Show it in the drawing" }, make("b", { textContent: `${rank + 1}. ${placeOfProbe(row)}` }),
+      make("br"), make("small", { textContent: leftAfter(row) }));
     go.addEventListener("click", () => visit(row));
     const cannot = make("button", { className: "edit", textContent: "Cannot reach", title: `Leave ${wireOf(row.wire)} out` });
     cannot.addEventListener("click", () => ask({ act: "reach", wire: row.wire, can: false }));
@@ -346,9 +362,41 @@ function paintAdvice() {
   byId("unreachable").replaceChildren(...state.unreachable.map((wire) => chip(`cannot reach ${wire}`, `can reach ${wire}`, () => reach(wire))));
 }
 
+// The first measurement stands below the drawing, with a large button for each answer; or else how things are.
+function paintProbe() {
+  const [row] = state.advice ?? [];
+  byId("probe-go").replaceChildren(...(row ? [make("b", { textContent: `Measure ${placeOfProbe(row)}` }), ` ${leftAfter(row)}`] : [byId("status").textContent]));
+  byId("probe-go").disabled = !row;
+  byId("probe-answers").hidden = !row;
+}
+
+const placeOfProbe = (row) => probePlace(row.wire) + (state.patterns.length > 1 ? ` in ${row.pattern}` : "");
+const leftAfter = (row) => `if 0: ${row.zero} left, if 1: ${row.one} left${row.complete ? "" : ` of the first ${row.of}`}`;
+
+// Enters what was read at the first measurement, and goes to the next.
+let isFollowing = false;
+
+async function answer(bit) {
+  const [row] = state.advice ?? [];
+  if (!row) { say(state.advice === null ? "The next measurement is not known yet." : "There is no measurement to answer: click the wire."); return; }
+  if (row.pattern !== pattern().name) await ask({ act: "pattern", how: "choose", name: row.pattern });
+  isFollowing = true;
+  ask({ act: "see", wire: row.wire, bit });
+}
+
+function nextWrong() {
+  const count = state.patterns.length;
+  const order = state.patterns.map((_, index) => (state.now + 1 + index) % count);
+  const found = order.find((index) => state.patterns[index].against.length);
+  if (found === undefined) say("No reading is wrong.");
+  else if (found !== state.now) ask({ act: "pattern", how: "choose", name: state.patterns[found].name });
+  else goTo(wireOf(pattern().against[0]));
+}
+
 async function visit(row) {
   if (row.pattern !== pattern().name) await ask({ act: "pattern", how: "choose", name: row.pattern });
   if (drawing.frames !== null) setTime(timeOf(row.wire));
+  showPin(wireOf(row.wire));
   if (!goTo(wireOf(row.wire))) say(`${wireOf(row.wire)} is not in this part of the drawing: open its block, or show the whole device.`);
 }
 
@@ -366,7 +414,7 @@ function chip(text, label, forget) {
 function paintCandidates() {
   const areMany = state.patterns.filter((row) => row.seen.length).length > 1;
   byId("candidates").replaceChildren(...state.candidates.map((row) => {
-    const names = row.parts.length ? row.parts.join(", ") : "nothing is faulty";
+    const names = row.parts.map(partName).join(", ") || "nothing is faulty";
     const button = make("button", { textContent: state.levels && !areMany ? `${names} (cost ${row.cost})` : names });
     for (const [name, on] of [["mouseenter", true], ["focus", true], ["mouseleave", false], ["blur", false]])
       button.addEventListener(name, () => light(row.parts, on));
@@ -387,7 +435,11 @@ function paintRest(held) {
   const forget = (part) => ask({ act: "hold", part, mode: null });
   byId("tested").replaceChildren(...[...held].map(([part, mode]) => chip(`${part}: ${mode}`, `${part} was not tested`, () => forget(part))));
   byId("tested-section").hidden = !held.size;
-  if (document.activeElement !== byId("replaced")) byId("replaced").value = state.replaced;
+  if (document.activeElement !== byId("replaced") && !noteTimer) byId("replaced").value = state.replaced;
+  byId("saved").textContent = state.unsaved || (state.undo ? `Saved in ${state.saved}` : "");
+  byId("earlier-section").hidden = !state.earlier?.length;
+  byId("earlier").replaceChildren(...(state.earlier ?? []).map(([at, board, count]) =>
+    make("li", {}, make("a", { href: `../${board}/`, textContent: `${new Date(at * 1000).toLocaleString()}: ${count} readings` }))));
   byId("log").textContent = state.log.join("\n");
   byId("undo").disabled = !state.undo;
   byId("redo").disabled = !state.redo;
@@ -398,15 +450,18 @@ function paintRest(held) {
 
 // What people do.
 
-function turn(wire) {
-  if (!wasDragged && canEdit()) ask({ act: "turn", wire: nameOf(wire) });
+function turn(wire, isApart = false) {
+  if ((isApart || !wasDragged) && canEdit()) ask({ act: "turn", wire: nameOf(wire) });
 }
 
 function keyAtMark(event, wire) {
   const bits = new Map([["0", 0], ["1", 1], ["x", null], ["-", null], ["Delete", null], ["Backspace", null]]);
   if (event.ctrlKey || event.metaKey || event.altKey) return;
-  if (bits.has(event.key) && canEdit()) ask({ act: "see", wire: nameOf(wire), bit: bits.get(event.key) });
-  else if ((event.key === "Enter" || event.key === " ") && event.currentTarget.tagName !== "BUTTON") turn(wire);
+  const [first] = state.advice ?? [];
+  if (bits.has(event.key) && canEdit()) {
+    isFollowing = first?.wire === nameOf(wire) && first.pattern === pattern().name && bits.get(event.key) !== null;
+    ask({ act: "see", wire: nameOf(wire), bit: bits.get(event.key) });
+  } else if ((event.key === "Enter" || event.key === " ") && event.currentTarget.tagName !== "BUTTON") turn(wire);
   else if (event.key.startsWith("Arrow") && marks.has(wire)) step(event.key, wire);
   else return;
   event.preventDefault();
@@ -471,6 +526,7 @@ const pointers = new Map();
 
 function place() {
   byId("world").setAttribute("transform", `translate(${view.x} ${view.y}) scale(${view.scale})`);
+  byId("world").style.setProperty("--finger", `${Math.min(MOST_FINGER, Math.max(RADIUS, FINGER / view.scale))}px`);
 }
 
 function zoom(factor, x = byId("sheet").clientWidth / 2, y = byId("sheet").clientHeight / 2) {
@@ -505,14 +561,17 @@ function goTo(name) {
   const group = (mark ?? shown)?.group;
   if (!group) return false;
   const at = group.getBoundingClientRect(), sheet = byId("sheet").getBoundingClientRect();
-  if (view.scale < 0.5) view.scale = 0.8;
+  const least = matchMedia("(pointer: coarse)").matches ? 1.1 : 0.8, isSmall = view.scale < (least > 1 ? least : 0.5);
+  if (isSmall) view.scale = least;
   const [x, y] = mark ? [mark.x, mark.y] : [shown.box.x + shown.box.w / 2, shown.box.y + shown.box.h / 2];
   const isInside = at.left > sheet.left + 20 && at.right < sheet.right - 20 && at.top > sheet.top + 20 && at.bottom < sheet.bottom - 20;
-  if (!isInside || view.scale === 0.8) {
+  if (!isInside || isSmall) {
     view.x = sheet.width / 2 - x * view.scale;
     view.y = sheet.height / 2 - y * view.scale;
     place();
   }
+  // On a small screen the drawing may be scrolled away.
+  byId("sheet").scrollIntoView({ block: "nearest" });
   group.focus({ preventScroll: true });
   return true;
 }
@@ -577,20 +636,75 @@ function save() {
   setTimeout(() => URL.revokeObjectURL(link.href), 10000);
 }
 
+// All of the drawing, whatever is shown of it.
+function picture() {
+  const { x, y, width, height } = byId("world").getBBox(), world = byId("world").cloneNode(true);
+  for (const name of ["id", "transform"]) world.removeAttribute(name);
+  return draw("svg", { class: "sheet picture", viewBox: `${x - 4} ${y - 4} ${width + 8} ${height + 8}` }, world);
+}
+
 function paper() {
   const row = (tag, cells) => make("tr", {}, ...cells.map((text) => make(tag, { textContent: text })));
   const readings = state.patterns.flatMap((one) => one.seen.map(([wire, bit]) => {
     const should = new Map(one.expected).get(wire);
     return row("td", [one.name, spoken(wire), bit, should ?? "", one.against.includes(wire) ? "wrong" : ""]);
   }));
-  const found = state.candidates.map((one) => make("li", { textContent: one.parts.join(", ") || "nothing is faulty" }));
+  const found = state.candidates.map((one) => make("li", { textContent: one.parts.map(partName).join(", ") || "nothing is faulty" }));
+  const advice = (state.advice ?? []).map((one) => make("li", { textContent: `${placeOfProbe(one)}: ${leftAfter(one)}` }));
   byId("paper").replaceChildren(
     make("h1", { textContent: drawing.title }), make("p", { textContent: `Date: ${new Date().toLocaleString()}` }),
     make("h2", { textContent: "Readings" }), make("table", {}, row("th", ["pattern", "wire", "read", "should be", ""]), ...readings),
     make("h2", { textContent: "Explanations" }), make("p", { textContent: byId("status").textContent }), make("ul", {}, ...found),
+    make("h2", { textContent: "Measure next" }), make("ol", {}, ...advice), picture(),
+    make("div", {}, ...[...byId("chips").children].map((shape) => shape.cloneNode(true))),
     make("h2", { textContent: "Tested parts" }), make("p", { textContent: state.held.map(([part, mode]) => `${part}: ${mode}`).join(", ") || "none" }),
-    make("h2", { textContent: "What was replaced" }), make("div", { className: "write", textContent: state.replaced }),
+    make("h2", { textContent: "What was replaced" }), make("div", { className: "write", textContent: byId("replaced").value }),
     make("p", { textContent: "Name and date:" }));
+}
+
+// What is typed is sent once the hand rests, and when the page is left.
+let noteTimer = 0;
+
+function note() {
+  clearTimeout(noteTimer);
+  noteTimer = 0;
+  if (state && canEdit() && byId("replaced").value !== state.replaced) ask({ act: "replaced", text: byId("replaced").value });
+}
+
+// The box keeps its text until all of it is taken, and shows what is wrong with it.
+async function take(text) {
+  const box = byId("paste-text");
+  if (!text.trim()) return;
+  const got = await ask({ act: "readings", text, here: byId("paste-here").checked });
+  if (got && !got.error) {
+    box.value = "";
+    byId("paste-error").textContent = "";
+    byId("paste-dialog").close();
+    return;
+  }
+  box.value = text;
+  if (!byId("paste-dialog").open) byId("paste-dialog").showModal();
+  const why = got ? got.error : "The program does not answer. The text stays here.";
+  byId("paste-error").textContent = why;
+  say("");
+  box.focus();
+  box.setSelectionRange(...placeOf(why, text));
+}
+
+// Where in a text the words of a refusal point to: a line by its number, or a reading by itself or its wire.
+function placeOf(why, text) {
+  const line = /(?:row|line) (\d+)/.exec(why);
+  let at = 0;
+  for (const [number, row] of text.split("\n").entries()) {
+    if (line && number + 1 === Number(line[1])) return [at, at + row.length];
+    at += row.length + 1;
+  }
+  for (const { 0: word, index } of text.matchAll(/[^\s,;]+/g)) {
+    const wire = word.slice(0, word.lastIndexOf("="));
+    if (why.startsWith(word) || why.startsWith(`'${word}'`) || why.includes(` ${word} `) || (wire && why.includes(`wire ${wire}:`)))
+      return [index, index + word.length];
+  }
+  return [text.length, text.length];
 }
 
 function buttons() {
@@ -608,17 +722,22 @@ function buttons() {
     byId("words").hidden = !byId("words").hidden;
     byId("help").setAttribute("aria-expanded", String(!byId("words").hidden));
   });
+  on("probe-go", () => visit(state.advice[0]));
+  on("probe-0", () => answer(0));
+  on("probe-1", () => answer(1));
   on("closer", () => zoom(1.3));
   on("farther", () => zoom(1 / 1.3));
   on("fit", () => fit());
+  on("with-chips", () => { showChips(); fit(true); });
   on("cone", () => load({ fit: true }));
   on("menu-ok", () => hold("ok"));
   on("menu-bad", () => hold("bad"));
   on("menu-forget", () => hold(null));
   on("menu-open", () => { openBlocks = [...openBlocks, menuBox.name]; closeMenu(); load(); });
   on("menu-close", closeMenu);
-  on("paste", () => { byId("paste-text").value = ""; byId("paste-dialog").showModal(); });
-  on("paste-take", () => { if (byId("paste-text").value.trim()) ask({ act: "readings", text: byId("paste-text").value }); });
+  on("paste", () => byId("paste-dialog").showModal());
+  on("paste-take", () => take(byId("paste-text").value));
+  on("message-close", () => say(""));
 }
 
 function listeners() {
@@ -629,22 +748,35 @@ function listeners() {
   });
   byId("search").addEventListener("change", find);
   byId("time").addEventListener("input", () => setTime(Number(byId("time").value)));
-  byId("replaced").addEventListener("change", () => canEdit() && ask({ act: "replaced", text: byId("replaced").value }));
+  byId("replaced").addEventListener("input", () => { clearTimeout(noteTimer); noteTimer = setTimeout(note, 300); });
+  byId("replaced").addEventListener("change", note);
+  addEventListener("pagehide", note);
   addEventListener("beforeprint", paper);
   addEventListener("focus", () => state && ask({ act: "state", version: state.version }));
   addEventListener("pointerdown", (event) => { if (!byId("menu").contains(event.target)) byId("menu").hidden = true; });
   addEventListener("paste", (event) => {
     if (["INPUT", "TEXTAREA"].includes(event.target.tagName) || !canEdit()) return;
-    ask({ act: "readings", text: event.clipboardData.getData("text") });
+    take(event.clipboardData.getData("text"));
   });
-  addEventListener("keydown", (event) => {
-    if (event.key === "Escape") closeMenu();
-    if (!(event.ctrlKey || event.metaKey) || ["INPUT", "TEXTAREA"].includes(event.target.tagName) || !canEdit()) return;
-    if (event.key === "z" && !event.shiftKey) ask({ act: "undo" });
-    else if (event.key === "y" || (event.key.toLowerCase() === "z" && event.shiftKey)) ask({ act: "redo" });
-    else return;
-    event.preventDefault();
-  });
+  addEventListener("keydown", keyAnywhere);
+}
+
+// The keys that hold wherever the focus is, unless a wire or a part has taken them, or text is typed.
+function keyAnywhere(event) {
+  const isTyping = ["INPUT", "TEXTAREA"].includes(event.target.tagName) && event.target.type !== "checkbox";
+  if (event.key === "Escape") {
+    if (byId("menu").hidden && !byId("paste-dialog").open) document.activeElement?.blur();
+    closeMenu();
+  }
+  if (isTyping || event.defaultPrevented || event.altKey || !state || byId("paste-dialog").open || !byId("menu").hidden) return;
+  const key = event.ctrlKey || event.metaKey ? `ctrl-${event.key.toLowerCase()}${event.shiftKey ? "-shift" : ""}` : event.key;
+  const undo = () => ask({ act: "undo" }), redo = () => ask({ act: "redo" });
+  const acts = { "0": () => answer(0), "1": () => answer(1), u: undo, "ctrl-z": undo, "ctrl-y": redo, "ctrl-z-shift": redo };
+  const looks = { "/": () => byId("search").focus(), n: nextWrong };
+  const act = looks[key] ?? (canEdit() ? acts[key] : undefined);
+  if (!act) return;
+  event.preventDefault();
+  act();
 }
 
 async function begin() {

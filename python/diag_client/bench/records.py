@@ -9,7 +9,7 @@ from collections.abc import Collection, Mapping, Sequence
 from ..boards.tables import MARK, SEPARATOR, BadTable, cells_of, rows_of
 from ..case import NAME_RULE, SESSION_NAME, Board, Case, Mode
 from ..errors import BadScript, shown
-from ..readings import at_odds, bit_of, words_of
+from ..readings import at_odds, bit_of, without_buses, words_of
 
 MOST_PATTERNS = 100
 # A record is a script of at most so many lines.
@@ -152,10 +152,15 @@ def read_script(text: str, known: Known) -> Record:
     return dataclasses.replace(record.with_held(board.held), now=0, **noted)
 
 
-def read_readings(text: str, known: Known) -> list[tuple[str, dict[str, int | None]]]:
+def has_case(text: str) -> bool:
+    """Whether a script that was saved says anything of the board: `read_script` refuses an empty one."""
+    return any(line.startswith("open ") for line in text.splitlines())
+
+
+def read_readings(text: str, known: Known) -> list[tuple[str | None, dict[str, int | None]]]:
     """What was pasted: pairs such as a=0 b=1, a table whose first row has the names of wires and each further row a pattern, or a script.
 
-    Gives the name of a pattern, which is empty if none is said, with its readings. A column `pattern` has names of patterns.
+    Gives the name of a pattern, which is empty if none is said, with its readings; None for pairs, which are of the present pattern.
     """
     lines = [line for line in text.removeprefix(MARK).splitlines() if line.strip() and not line.startswith("#")]
     try:
@@ -171,22 +176,30 @@ def read_readings(text: str, known: Known) -> list[tuple[str, dict[str, int | No
             return [(name, dict(seen)) for name, seen in rows_of("the table", cells_of("the table", text, names), names)]
     except (BadTable, BadScript) as error:
         raise Bad(f"{error}; nothing was taken. Write a=0 b=1, or a table of wires by patterns") from error
-    words = words_of("\n".join(lines))
+    try:
+        words = without_buses(words_of("\n".join(lines)), {*known.wires, *known.others})
+    except ValueError as error:
+        raise Bad(f"{error}; nothing was taken") from None
     pairs = [word.rpartition("=") for word in words]
     for word, (wire, _, _) in zip(words, pairs, strict=True):
         if not wire:
             raise Bad(f"{shown(word)!r} is no reading: write a=0 b=1")
     if why := at_odds(words, known.others):
         raise Bad(why)
-    return [("", dict(known.reading(wire, bit) for wire, _, bit in pairs))]
+    return [(None, dict(known.reading(wire, bit) for wire, _, bit in pairs))]
 
 
-def take_readings(record: Record, rows: Sequence[tuple[str, Mapping[str, int | None]]]) -> Record:
-    """Adds what was pasted: to the present pattern if it is the only row or the pattern is empty, and else to patterns of their own."""
+def take_readings(record: Record, rows: Sequence[tuple[str | None, Mapping[str, int | None]]], here: bool = False) -> Record:
+    """Adds what was pasted. Each row is a pattern: the present one if it is empty, and else a new one.
+
+    Pairs, and the only row if it is meant for `here`, are of the present pattern.
+    """
+    if here and len(rows) != 1:
+        raise Bad(f"these are {len(rows)} patterns, and not one for the present pattern; nothing was taken")
     if len(rows) > MOST_PATTERNS:
         raise Bad(f"a board has at most {MOST_PATTERNS} patterns, and these are {len(rows)}; nothing was taken")
     for index, (name, seen) in enumerate(rows):
-        if name or len(rows) > 1:
+        if name is not None and not here:
             if name in record.board.patterns:
                 record = dataclasses.replace(record, now=record.names.index(name))
             elif index or record.seen or name:
@@ -196,3 +209,14 @@ def take_readings(record: Record, rows: Sequence[tuple[str, Mapping[str, int | N
                 record = record.with_pattern(name).with_held(held)
         record = record.with_readings(seen)
     return record
+
+
+def told_of_change(before: Mapping[str, Case], after: Mapping[str, Case], count: int) -> str:
+    """What was done by a paste: how much was taken, and the readings that it replaced by other bits."""
+    new = len(after.keys() - before.keys())
+    other = [
+        f"{wire} was {bit}" for name, case in before.items() for wire, bit in case.seen.items()
+        if name in after and after[name].seen.get(wire, bit) != bit
+    ]  # fmt: skip
+    words = [f"{count} reading{'s' * (count != 1)} taken", f"{new} new pattern{'s' * (new != 1)}" if new else "", ", ".join(other)]
+    return "; ".join(filter(None, words))

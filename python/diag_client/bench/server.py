@@ -9,6 +9,7 @@ from __future__ import annotations
 
 import argparse
 import contextlib
+import html
 import http.server
 import importlib.resources
 import io
@@ -35,7 +36,8 @@ MOST_BODY = 1024 * 1024
 PATIENCE = 10.0
 # So many requests are served at once; more are turned away.
 MOST_AT_ONCE = 200
-FILES = {"": ("index.html", "text/html"), "page.js": ("page.js", "text/javascript"), "page.css": ("page.css", "text/css")}
+SCRIPTS = ("page.js", "chips.js")
+FILES = {"": ("index.html", "text/html"), "page.css": ("page.css", "text/css")} | {name: (name, "text/javascript") for name in SCRIPTS}
 HEADERS = {
     "Content-Security-Policy": "default-src 'none'; script-src 'self'; style-src 'self'; connect-src 'self'; img-src data:; "
     "base-uri 'none'; form-action 'none'; frame-ancestors 'none'",
@@ -85,16 +87,23 @@ class Server(http.server.ThreadingHTTPServer):
     def __init__(self, bench: Bench, listen: str = "127.0.0.1", port: int = 0, read_only: bool = False) -> None:
         self.bench = bench
         self.address_family = socket.AF_INET6 if ":" in listen else socket.AF_INET
-        self.token = secrets.token_urlsafe(18)
-        self.watch_token = secrets.token_urlsafe(18) if read_only else None
+        # The addresses stay as they were, so that a page that is open goes on once the bench is started again.
+        kept = bench.shelf.addresses()
+        self.token = kept.get("token") or secrets.token_urlsafe(18)
+        self.watch_token = (kept.get("watch") or secrets.token_urlsafe(18)) if read_only else None
         # For the browser that is opened here: others on this machine see its command line, so this word leads in once.
         self.door: str | None = secrets.token_urlsafe(18)
         folder = importlib.resources.files(__package__)
         self.files = {name: (folder.joinpath(file).read_bytes(), kind) for name, (file, kind) in FILES.items()}
         self._room = threading.BoundedSemaphore(MOST_AT_ONCE)
-        super().__init__((listen, port), Handler)
+        try:
+            super().__init__((listen, port or int(kept.get("port", 0))), Handler)
+        except (OSError, ValueError, OverflowError):
+            super().__init__((listen, port), Handler)
         self.listen = listen
         self.port = self.server_address[1]
+        words = {"port": str(self.port), "token": self.token, "watch": self.watch_token or kept.get("watch", "")}
+        bench.shelf.keep("addresses", json.dumps(words))
         self.names = {"127.0.0.1": {"127.0.0.1", "localhost"}, "::1": {"[::1]", "localhost"}}.get(listen, {listen, f"[{listen}]"})
         if listen in EVERYWHERE:
             self.names = {socket.gethostname().lower(), "localhost"}
@@ -209,13 +218,15 @@ class Handler(http.server.BaseHTTPRequestHandler):
         if act.get("act") == "state" and act.get("version") == board.version:
             self._json(200, {"same": True})
             return
-        own = {"read_only": watching, "watch": self._watch_path(board, watching)}
         try:
-            state = board.do(act)
+            status, state = 200, board.do(act)
         except Bad as error:
-            self._json(422, board.state() | own | {"error": str(error)})
-            return
-        self._json(200, state | own)
+            status, state = 422, board.state() | {"error": str(error)}
+        own: dict[str, Any] = {"read_only": watching, "watch": self._watch_path(board, watching)}
+        if not watching:
+            shelf = board.bench.shelf
+            own |= {"saved": str(shelf.place(board.id)), "unsaved": shelf.why, "earlier": shelf.earlier() if board.is_empty else []}
+        self._json(status, state | own)
 
     def _watch_path(self, board: Board, watching: bool) -> str | None:
         token = self.server.watch_token
@@ -228,6 +239,7 @@ class Handler(http.server.BaseHTTPRequestHandler):
         drawing = bench.drawing(is_open, board.cone() if act.get("wrong") is True else None)
         kinds = bench.scene.device.blocks
         own = {"inputs": bench.scene.inputs, "outputs": bench.scene.outputs, "frames": bench.frames, "has_levels": bench.has_levels}
+        own["chips"] = bench.scene.chips
         named = {"title": bench.title, "others": bench.other_names, "open": sorted(is_open & kinds.keys()), "is_design": bool(kinds)}
         return drawing | own | named
 
@@ -281,14 +293,22 @@ class Handler(http.server.BaseHTTPRequestHandler):
         try:
             yield
         except Refusal as error:
-            self._json(error.status, {"error": str(error)})
+            self._refuse(error.status, str(error))
         except Bad as error:
-            self._json(422, {"error": str(error)})
+            self._refuse(422, str(error))
         except Gone:
-            why = "there is no such board here: the program was started again, or the board is gone"
-            self._json(404, {"error": f"{why}. Save the case, open the address that the program printed, and load it."})
+            self._refuse(404, "there is no such board here. Save the case, open the address that the program printed, and load it.")
         except DiagError as error:
-            self._json(503, {"error": f"the program does not answer: {error}"})
+            self._refuse(503, f"the program does not answer: {error}")
+
+    def _refuse(self, status: int, why: str) -> None:
+        """Says why: a page to who looks at one, and else JSON."""
+        if self.command != "GET":
+            self._json(status, {"error": why})
+            return
+        link = '<p><a href="..">Open a new board</a></p>' if status == 404 and self.path.count("/") == 3 else ""
+        words = f"<!doctype html><html lang=en><title>diag bench</title><h1>This page is not here</h1><p>{html.escape(why)}</p>{link}"
+        self._send(status, words.encode("utf-8", "replace"), "text/html")
 
     def _json(self, status: int, value: Any) -> None:
         self._send(status, json.dumps(value, separators=(",", ":")).encode("ascii"), "application/json")
@@ -339,6 +359,9 @@ def run(words: argparse.Namespace) -> int:
                 webbrowser.open(server.url(server.door or server.token))
             with contextlib.suppress(KeyboardInterrupt):
                 server.serve_forever()
+            if saved := sum(not board.is_empty for board in bench.boards.values()):
+                where = bench.shelf.why or f"saved in {bench.shelf.folder}. They are there again when it is started again"
+                print(f"{saved} board{'s' * (saved != 1)}: {where}.", flush=True)
     finally:
         with contextlib.suppress(DiagError):
             bench.close()

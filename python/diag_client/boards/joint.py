@@ -7,6 +7,8 @@ from collections.abc import Callable, Iterable, Iterator
 from typing import TYPE_CHECKING
 
 from ..advice import AT_HAND, Proposal
+from ..case import Case
+from ..clash import clash_of
 from ..errors import Changed
 from ..replies import Blame, Diagnosis, Minimum, Verdict
 from .holding import Copies, JointProgress
@@ -81,6 +83,10 @@ class Joint:
         """The least cost of a set of faulty parts that explains all sessions, and the first such set."""
         self._look_for(1)
         return Minimum(self._copies.cost, self._names(self._found[0]))
+
+    def clash(self) -> dict[str, Case]:
+        """The fewest readings and tests that nothing explains, of one pattern or of several; as `Session.clash`."""
+        return clash_of(self.sessions, self._timeout)
 
     def diagnoses(self, limit: int | None = None) -> Iterator[Diagnosis]:
         """The sets of that cost, in name order, at most `limit` of them. They are looked for as they are taken.

@@ -12,7 +12,7 @@ from collections.abc import Iterable, Mapping, Sequence
 
 from ..case import NAME_RULE, SESSION_NAME, Board, Case
 from ..errors import DiagError, shown
-from ..readings import bit_of
+from ..readings import bit_of, bits_of, bus_of
 
 # The column that names the patterns.
 NAME = "pattern"
@@ -88,6 +88,9 @@ def rows_of(table: str, cells: Sequence[Sequence[str]], names: Mapping[str, str]
     if len(numbered) < 2:
         raise BadTable(f"{table}: a first row with the names of wires is needed, and a row for each pattern")
     (first, header), *rest = numbered
+    buses = {column: bus for column in header if column.lower() != NAME and (bus := bus_of(column, names))}
+    if buses:
+        header, rest = _apart(table, header, rest, buses)
     header = _header(f"{table}: row {first}", header, names)
     found: list[tuple[str, dict[str, int]]] = []
     taken: set[str] = set()
@@ -98,6 +101,22 @@ def rows_of(table: str, cells: Sequence[Sequence[str]], names: Mapping[str, str]
         taken.update([name] if name else [])
         found.append((name, seen))
     return found
+
+
+def _apart(
+    table: str, header: Sequence[str], rest: list[tuple[int, Sequence[str]]], buses: Mapping[str, list[str]]
+) -> tuple[list[str], list[tuple[int, Sequence[str]]]]:
+    """The same columns and rows, with a column for each wire in place of one for a bus."""
+    rows: list[tuple[int, Sequence[str]]] = []
+    for number, row in rest:
+        cells: list[str] = []
+        for column, (name, cell) in enumerate(zip(header, row), 1):
+            try:
+                cells += [bit for _, bit in bits_of(name, cell, buses[name])] if name in buses else [cell]
+            except ValueError as error:
+                raise BadTable(f"{table}: row {number}, column {column} ({name}): {error}") from None
+        rows.append((number, [*cells, *row[len(header):]]))
+    return [wire for name in header for wire in buses.get(name, [name])], rows
 
 
 def _header(where: str, row: Sequence[str], names: Mapping[str, str]) -> list[str]:

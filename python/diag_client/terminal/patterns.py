@@ -109,6 +109,10 @@ class BoardShell(Shell):
         print(f"pattern {name}: {_count_of(self.session.seen, 'reading')}")
         return False
 
+    def all_sessions(self) -> list[Session]:
+        """All patterns."""
+        return list(self.sessions.values())
+
     def do_drop(self, rest: str) -> bool:
         """One pattern less."""
         name = rest.strip()

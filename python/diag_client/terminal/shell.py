@@ -19,12 +19,13 @@ from typing import Any
 from .. import manual
 from ..advice import Proposal
 from ..case import CHANGES, NAME_RULE, Board, Case
+from ..clash import clash_of
 from ..devices import read_device
 from ..errors import DiagError, Ended, Inconsistent, Refused, sentence, shown
 from ..files import write_whole
 from ..pictures import graphviz, picture
 from ..progress import Progress
-from ..readings import UNREAD, at_odds, words_of
+from ..readings import NUMBER, UNREAD, at_odds, without_buses, words_of
 from ..replies import AnyLines, Lines
 from ..service import LIMITS, Service
 from ..session import Session
@@ -37,6 +38,7 @@ except ImportError:  # A Python that was built without it: there is no completio
 MORE = {
     "best": ("best [WIRE ..]", "the wires that split the diagnoses at hand best, of these or of all that are not seen; advice, not proved"),
     "case": ("case", "what was seen and held"),
+    "clash": ("clash", "if nothing explains the case: the fewest readings and tests that clash"),
     "expect": ("expect [WIRE ..]", "the bits that these wires, or all, have if all parts are ok, as far as the inputs seen fix them"),
     "inputs": ("inputs", "the names of the inputs"),
     "load": ("load FILE", "adds the case that a script holds, such as one that was saved"),
@@ -147,7 +149,7 @@ class Shell(cmd.Cmd):
         except Refused as refused:
             self.refuse(f"{REFUSED}{self.why(refused)}")
         except Inconsistent:
-            self.say("no set of faulty parts explains what was seen and held")
+            self.say("no set of faulty parts explains what was seen and held: clash says why")
         except KeyboardInterrupt:
             if not self.use_rawinput:
                 raise
@@ -267,6 +269,20 @@ class Shell(cmd.Cmd):
         self.say("seen: " + (" ".join(f"{wire}={bit}" for wire, bit in self.session.seen.items()) or "nothing"))
         self.say("held: " + (" ".join(f"{part}={mode}" for part, mode in self.session.held.items()) or "nothing"))
         return False
+
+    def do_clash(self, _: str) -> bool:
+        """The readings and tests that clash."""
+        found = self._waited("clash", lambda: clash_of(self.all_sessions()))
+        for pattern, case in found.items():
+            where = f"in {pattern}: " if len(self.all_sessions()) > 1 else ""
+            self.say(f"nothing explains {where}{' '.join(word for _, words in case.words() for word in words)}")
+        if not found:
+            self.say("nothing clashes: a set of faulty parts explains what was seen and held")
+        return False
+
+    def all_sessions(self) -> list[Session]:
+        """What is asked about: a session for each pattern."""
+        return [self.session]
 
     def do_expect(self, rest: str) -> bool:
         """What wires should be."""
@@ -425,6 +441,8 @@ class Shell(cmd.Cmd):
 
     def _asked(self, words: list[str]) -> Asked:
         command = words[0]
+        if command == "see" and any(self._is_number(word) for word in words[1:]):
+            words = [command, *without_buses(words[1:], {*self.service.wires, *self.service.other_names})]
         if command in ("open", "close"):
             raise ValueError("there is one session here, which is open to the end")
         if command in ("see", "hold") and (why := at_odds(words[1:], self.service.other_names)):
@@ -434,6 +452,12 @@ class Shell(cmd.Cmd):
         if len(words) > 2 and command in self.for_each:
             return Asked([[command, word] for word in words[1:]], command in CHANGES)
         return Asked([words])
+
+    @staticmethod
+    def _is_number(word: str) -> bool:
+        """Whether a word may be of a bus: only then the program is asked for the names of the wires."""
+        name, _, value = word.rpartition("=")
+        return value not in ("0", "1") and bool(NUMBER.fullmatch(value)) or name.endswith("]")
 
     def _asked_readings(self, words: Sequence[str]) -> Asked:
         """Readings. One that says that nothing was read takes back what was."""
@@ -596,7 +620,8 @@ def _natural(name: str) -> list[str | int]:
 
 def in_words(reply: str) -> str:
     """A reply, as a person reads it."""
-    return f"{reply} (nothing is wrong)" if reply in NOTHING_WRONG else reply
+    said = "nothing explains this: clash says why" if reply == "inconsistent" else "nothing is wrong" if reply in NOTHING_WRONG else ""
+    return f"{reply} ({said})" if said else reply
 
 
 def _hint(given: str) -> str:

@@ -93,7 +93,7 @@ _diag_boards_table='-h -
 --check= clasp'
 
 _diag_boards() {
-  local word=${COMP_WORDS[COMP_CWORD]} other takes='' place=1 name values options=''
+  local word=${COMP_WORDS[COMP_CWORD]} other takes='' place=1 name options=''
   COMPREPLY=()
   # What the option before takes, and which operand this is.
   for other in "${COMP_WORDS[@]:1:COMP_CWORD - 1}"; do
@@ -105,7 +105,7 @@ _diag_boards() {
       place=$((place + 1))
     fi
   done
-  while read -r name values; do
+  while read -r name _; do
     [[ $name == --ignore= || " ${COMP_WORDS[*]:1:COMP_CWORD - 1} " != *" ${name%=} "* ]] && options+="${name%=} "
   done <<<"$_diag_boards_table"
   case $takes in

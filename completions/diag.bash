@@ -1,4 +1,4 @@
-# Completion of `diag` for bash: `source completions/diag.bash`. It needs neither the launcher nor the checkout.
+# Completion of `diag` and `diag-boards` for bash: `source completions/diag.bash`. It needs neither the launcher nor the checkout.
 
 # Made by `docs/write-help --write`: each form with the number of words before its options and the endings of its FILE, and each option,
 # with `=` before a number, its forms, and the endings and the other options that it goes with, if not with all.
@@ -65,8 +65,64 @@ _diag_files() {
   local path
   compopt -o filenames 2>/dev/null
   while IFS= read -r path; do
-    if [ -d "${path/#\~\//$HOME/}" ] || { [[ $path == *.* ]] && _diag_is_in ".${path##*.}" "$2"; }; then COMPREPLY+=("$path"); fi
+    if [ -d "${path/#\~\//$HOME/}" ] || [ "$2" = - ] || { [[ $path == *.* ]] && _diag_is_in ".${path##*.}" "$2"; }; then COMPREPLY+=("$path"); fi
   done < <(compgen -f -- "$1")
 }
 
+# Made likewise: each option of `diag-boards`, with `=` before a value, and its choices or `file`.
+_diag_boards_table='-h -
+--help -
+--narrow -
+--no-narrow -
+--budget= -
+--frames= -
+--program= file
+-o= file
+--output= file
+--resume -
+--csv -
+--list= -
+--blame -
+--next -
+--seconds -
+--summary -
+--ignore= -
+--timeout= -
+--jobs= -
+--cluster= -
+--check= clasp'
+
+_diag_boards() {
+  local word=${COMP_WORDS[COMP_CWORD]} other takes='' place=1 name options=''
+  COMPREPLY=()
+  # What the option before takes, and which operand this is.
+  for other in "${COMP_WORDS[@]:1:COMP_CWORD - 1}"; do
+    if [ -n "$takes" ]; then
+      takes=''
+    elif [[ $other == -?* ]]; then
+      takes=$(awk -v option="$other=" '$1 == option { print $2 }' <<<"$_diag_boards_table")
+    else
+      place=$((place + 1))
+    fi
+  done
+  while read -r name _; do
+    [[ $name == --ignore= || " ${COMP_WORDS[*]:1:COMP_CWORD - 1} " != *" ${name%=} "* ]] && options+="${name%=} "
+  done <<<"$_diag_boards_table"
+  case $takes in
+    -) ;;
+    file) _diag_files "$word" - ;;
+    ?*) mapfile -t COMPREPLY < <(compgen -W "${takes//,/ }" -- "$word") ;;
+    *)
+      if [[ $word == -* || $place -gt 2 ]]; then
+        mapfile -t COMPREPLY < <(compgen -W "$options" -- "$word")
+      elif [ "$place" -eq 1 ]; then
+        _diag_files "$word" .bench,.dev
+      else
+        _diag_files "$word" -
+      fi
+      ;;
+  esac
+}
+
 complete -F _diag diag
+complete -F _diag_boards diag-boards

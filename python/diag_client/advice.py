@@ -7,12 +7,16 @@ import fractions
 from collections.abc import Iterable, Sequence
 from typing import TYPE_CHECKING
 
+from .devices import pin_in_words
+
 if TYPE_CHECKING:
     from .replies import Diagnosis
     from .session import Session
 
 # So many diagnoses are at hand if nothing else is said.
 AT_HAND = 100
+# So many of the pins at a wire are named.
+MOST_PINS = 3
 # So many wires at least are counted by diagnoses. To hold all parts takes longer than to ask a few wires.
 MANY = 50
 
@@ -30,6 +34,8 @@ class Proposal:
     with_zero: int
     with_one: int
     complete: bool
+    # Where a probe reaches the wire on a board, such as `U3.6`.
+    pins: tuple[str, ...] = dataclasses.field(default=(), kw_only=True)
 
     @property
     def expected_left(self) -> fractions.Fraction:
@@ -46,11 +52,12 @@ class Proposal:
         goes = "goes" if self.with_zero == 1 else "go"
         of = f"of {self.at_hand} diagnoses" if self.complete else f"of the first {self.at_hand} diagnoses"
         counts = f"{of} {self.with_zero} {goes} on with 0 and {self.with_one} with 1"
-        return f"measure {self.wire}: {counts}, so that {float(self.expected_left):.1f} are expected to be left"
+        at = " or ".join(map(pin_in_words, self.pins[:MOST_PINS]))
+        return f"measure {f'{at} ({self.wire})' if at else self.wire}: {counts}, so that {float(self.expected_left):.1f} are expected to be left"
 
 
 def rank(session: Session, among: Iterable[str] | None, limit: int) -> list[Proposal]:
-    """The unseen wires of `among`, else all, with what they split: see `Session.rank_probes`."""
+    """The unseen wires of `among`, else all within reach, with what they split: see `Session.rank_probes`."""
     if limit < 1:
         raise ValueError(f"the number of diagnoses at hand is at least 1, and not {limit}")
     if isinstance(among, str):
@@ -70,7 +77,8 @@ def rank(session: Session, among: Iterable[str] | None, limit: int) -> list[Prop
         # Two lists for each wire, or one for each diagnosis.
         count = by_diagnosis if len(either) >= max(MANY, len(at_hand) // 2) else by_wire
         counts |= count(scratch, at_hand, either)
-    proposals = [Proposal(wire, len(at_hand), zero, one, len(found) <= limit) for wire, (zero, one) in counts.items()]
+    pins, complete = session.service.pins, len(found) <= limit
+    proposals = [Proposal(wire, len(at_hand), *bits, complete, pins=pins.get(wire, ())) for wire, bits in counts.items()]
     return sorted(proposals, key=lambda row: (-row.reduction, max(row.with_zero, row.with_one), row.wire))
 
 
@@ -86,7 +94,7 @@ def by_diagnosis(scratch: Session, at_hand: Sequence[Diagnosis], wires: Sequence
     scratch.hold({row.part: "ok" for row in scratch.blame()})
     for diagnosis in at_hand:
         scratch.hold(dict.fromkeys(diagnosis, "bad"))
-        for row in scratch.probes():
+        for row in scratch.probes(every=True):
             if row.wire in counts:
                 counts[row.wire][0] += row.if_zero is not None
                 counts[row.wire][1] += row.if_one is not None

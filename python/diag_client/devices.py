@@ -218,12 +218,41 @@ def other_names(path: str | os.PathLike[str], frames: int | None = None) -> dict
     of, and the pins of chips, such as `U3.6`; and the names that these have in the device; over several times each at each time too. What
     the device itself calls so goes first.
     """
-    path = pathlib.Path(path)
-    rows = [row.split("\t") for ending in ("pins", "names") for row in table_rows(path, path.with_name(f"{path.name}.{ending}"))]
+    rows = _rows_beside(path, "pins", "names")
     wires = set(read_device(path).wires) if rows else set()
     pairs = [(row[1], row[0]) for row in rows if len(row) > 1 and row[0] in wires and row[1] not in wires]
     times = range(1, (frames or 0) + 1)
     return dict(pairs) | {f"{other}@{time:04}": f"{name}@{time:04}" for other, name in pairs for time in times}
+
+
+def pins_at(path: str | os.PathLike[str], frames: int | None = None) -> dict[str, tuple[str, ...]]:
+    """The wires that a probe reaches if `diag-netlist` made a device of a board, each with its pins and test points, such as `U3.6` and
+    `TP1`; over several times at each time. None of another device.
+    """
+    found: dict[str, tuple[str, ...]] = {}
+    for row in _rows_beside(path, "pins"):
+        if len(row) > 1:
+            found[row[0]] = (*found.get(row[0], ()), row[1])
+    if frames is None:
+        return found
+    times = range(1, frames + 1)
+    return {at_time(wire, time): tuple(at_time(pin, time) for pin in pins) for time in times for wire, pins in found.items()}
+
+
+def pin_in_words(pin: str) -> str:
+    """A pin as a person calls it.
+
+    >>> pin_in_words("U3.6"), pin_in_words("TP1"), pin_in_words("U3.6@0002")
+    ('U3 pin 6', 'TP1', 'U3 pin 6 at time 2')
+    """
+    name, at, time = pin.partition("@")
+    reference, dot, number = name.rpartition(".")
+    return (f"{reference} pin {number}" if dot else name) + (f" at time {int(time)}" if at else "")
+
+
+def _rows_beside(path: str | os.PathLike[str], *endings: str) -> list[list[str]]:
+    path = pathlib.Path(path)
+    return [row.split("\t") for ending in endings for row in table_rows(path, path.with_name(f"{path.name}.{ending}"))]
 
 
 def at_time(name: str, time: int) -> str:

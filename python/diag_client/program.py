@@ -2,14 +2,12 @@
 
 from __future__ import annotations
 
-import importlib.metadata
 import json
 import os
 import pathlib
 import shutil
 import subprocess
 import urllib.parse
-import urllib.request
 
 from .errors import NotBuilt
 
@@ -49,9 +47,12 @@ def program_of(top: pathlib.Path) -> str:
 
 def installed_from() -> pathlib.Path | None:
     """The checkout that the installed package was made from, which `pip` notes for a folder; None if there is none."""
+    # It takes as long to load as half of this package.
+    from importlib import metadata
+
     try:
-        noted = importlib.metadata.distribution("diag-client").read_text("direct_url.json")
-    except importlib.metadata.PackageNotFoundError:
+        noted = metadata.distribution("diag-client").read_text("direct_url.json")
+    except metadata.PackageNotFoundError:
         return None
     url = urllib.parse.urlsplit(str(json.loads(noted or "{}").get("url", "")))
-    return pathlib.Path(urllib.request.url2pathname(url.path)).parent if url.scheme == "file" else None
+    return pathlib.Path(urllib.parse.unquote(url.path)).parent if url.scheme == "file" else None

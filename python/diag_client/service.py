@@ -17,7 +17,7 @@ from .boards.joint import Joint
 from .boards.tables import BadTable, Rows, read_table
 from .case import CHANGES, Board, Case
 from .child import Child
-from .devices import input_wires, other_names
+from .devices import input_wires, other_names, pins_at
 from .errors import Ended, NotBuilt, shown
 from .program import find_program
 from .replies import AnyLines, Lines, Ready, Request
@@ -226,6 +226,15 @@ class Service:
     def other_names(self) -> dict[str, str]:
         """Names that sessions take too, with the name that each stands for: those that `diag-netlist` has replaced."""
         return other_names(self.file, self.frames)
+
+    @functools.cached_property
+    def pins(self) -> dict[str, tuple[str, ...]]:
+        """Of a board's device the wires that a probe reaches, each with its pins, such as `U3.6`. Nothing if each wire can be reached."""
+        return pins_at(self.file, self.frames)
+
+    def can_reach(self, wire: str) -> bool:
+        """Whether a probe reaches a wire: of a board's device one at a pin or a test point, and of another device each."""
+        return not self.pins or wire in self.pins
 
     def session(self, name: str | int | None = None) -> Session:
         """Opens a session, by a name of your own or by one that is made, which is s and a number.
@@ -460,7 +469,7 @@ class Service:
     def _all_names(self) -> tuple[tuple[str, ...], tuple[str, ...]]:
         if self._names is None:
             with self.session() as session:
-                self._names = (tuple(row.part for row in session.blame()), tuple(row.wire for row in session.probes()))
+                self._names = (tuple(row.part for row in session.blame()), tuple(row.wire for row in session.probes(every=True)))
         return self._names
 
 

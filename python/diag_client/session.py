@@ -273,10 +273,11 @@ class Session:
         """
         return self.probe_each([wire])[0]
 
-    def probes(self) -> list[Probe]:
-        """The same of each wire that is not seen, in name order."""
+    def probes(self, every: bool = False) -> list[Probe]:
+        """The same of each wire that is not seen, in name order; of a board's device of those that a probe reaches, or of `every` one."""
         request = Listing(self.name, self._line("probes"), more="probe", last="end inconsistent")
-        return display.Rows(_probe(row) for row in self._told(request, "probe"))
+        rows = map(_probe, self._told(request, "probe"))
+        return display.Rows(row for row in rows if every or self.service.can_reach(row.wire))
 
     def blame(self) -> list[Blame]:
         """Of each part, in name order, whether it is faulty in all diagnoses, in some, or in none.
@@ -322,7 +323,7 @@ class Session:
         return next((row for row in self.rank_probes(among, limit) if row.reduction > 0), None)
 
     def rank_probes(self, among: Iterable[str] | None = None, limit: int = advice.AT_HAND) -> list[Proposal]:
-        """The wires of `among`, else all, that were not seen, the one first that splits the diagnoses at hand best.
+        """The wires of `among`, else all that a probe reaches, that were not seen, the one first that splits the diagnoses at hand best.
 
         At hand are the first `limit` diagnoses. Of each wire it is counted how many of these are still diagnoses if the wire is
         seen as 0 too, and if it is seen as 1 too, as the program answers it. If these are z and o of n, which are equally likely, then
@@ -398,7 +399,7 @@ class Session:
         with self.service.session() as scratch:
             scratch.see(inputs)
             try:
-                rows = scratch.probes()
+                rows = scratch.probes(every=True)
             except Inconsistent:
                 return {}
         bits = inputs | {row.wire: bit for row in rows if (bit := row.fault_free) is not None}

@@ -19,7 +19,7 @@ from diag_client.convert.board import Role, letters_of, read_board
 from diag_client.convert.chips import all_chips
 from diag_client.convert.circuit import UnusableNetlist
 from diag_client.convert.kicad import read_kicad
-from diag_client.devices import GATES, other_names, read_device
+from diag_client.devices import GATES, other_names, pins_at, read_device
 
 BOARDS = EXAMPLES / "boards"
 SEED = 4
@@ -479,6 +479,54 @@ class Explained(Boards):
         with Service(path, narrow=True) as service, service.session() as session:
             session.see({"U3.3": 1, "J1.4": 1, "TP1": 0})
             self.assertEqual((session.seen, session.minimum().faulty), ({"/E2": 1, "/E": 1, "/Y": 0}, ("U3",)))
+
+
+class Reached(unittest.TestCase):
+    """What is advised is within reach of a probe, and is called by its pins: 5 - 3 is 4, so U1 or U2 is bad."""
+
+    FIRST = "measure U1 pin 2 or U2 pin 6 (Net-U1-Pad2): of 2 diagnoses 1 goes on with 0 and 1 with 1, so that 1.0 are expected to be left"
+
+    def setUp(self):
+        folder = pathlib.Path(self.enterContext(tempfile.TemporaryDirectory()))
+        self.path = folder / "adder.dev"
+        netlist.convert(BOARDS / "adder.net", self.path)
+        self.lines = (BOARDS / "adder.script").read_text().split("min S")[0]
+
+    @needs_program
+    def test_sessions(self):
+        with Service(self.path, narrow=True) as service, service.session("S") as session:
+            session.load(self.lines)
+            inner = [row.wire for row in session.probes(every=True) if not service.can_reach(row.wire)]
+            self.assertEqual(("U1-ok" in inner, set(service.pins) & set(inner), service.pins["Net-U1-Pad2"]), (True, set(), ("U1.2", "U2.6")))
+            self.assertEqual([row.wire for row in session.probes()], sorted(service.pins.keys() - session.seen.keys()))
+            self.assertEqual({row.wire for row in session.rank_probes()}, service.pins.keys() - session.seen.keys())
+            self.assertEqual([row.wire for row in session.rank_probes(inner[:1])], inner[:1])
+            self.assertEqual(str(session.best_probe()), self.FIRST)
+            with service.session() as other:
+                together = service.together([session, other])
+                self.assertEqual(str(together.best_probe()), f"pattern S: {self.FIRST}")
+                self.assertLessEqual({row.wire for row in together.rank_probes()}, service.pins.keys())
+                self.assertEqual({row.wire for row in together.rank_probes(among=["U2.6"])}, {"Net-U1-Pad2"})
+
+    @needs_program
+    def test_terminal(self):
+        lines = "".join(f"{line}\n".replace("see S ", "see ") for line in self.lines.splitlines() if line.startswith("see"))
+        words = [sys.executable, "-m", "diag_client", "shell", self.path]
+        asked = lines + "best\nprobes\nsee U2.6=1\nlist 9\n"
+        done = subprocess.run(words, input=asked, capture_output=True, text=True, env={**os.environ, "PYTHONPATH": str(TOP / "python")})
+        told = [line for line in done.stdout.splitlines() if line != "ok"]
+        self.assertEqual((done.stderr, told[0], told[-2:]), ("", self.FIRST, ["diag U2", "end"]))
+        self.assertEqual([line for line in told if line.startswith("probe Net-U1-Pad2 ")], ["probe Net-U1-Pad2 1 1: U1 pin 2, U2 pin 6"])
+        self.assertEqual([line for line in told if line.startswith("probe ") and " pin " not in line and "TP" not in line], [])
+
+    def test_times(self):
+        """Over several times a pin is there at each."""
+        given = self.path.with_name("counter.bench")
+        netlist.convert(BOARDS / "counter.net", given, is_of_gates=True)
+        found = pins_at(given, 2)
+        self.assertEqual({wire[-5:] for wire in found}, {"@0001", "@0002"})
+        self.assertEqual({pin[-5:] for pins in found.values() for pin in pins}, {"@0001", "@0002"})
+        self.assertEqual(len(found), 2 * len(pins_at(given)))
 
 
 class EveryChip(Boards):

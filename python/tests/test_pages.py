@@ -1,5 +1,6 @@
 """The help, the manual page, the completion and the tables of the pages say what the table of forms says."""
 
+import argparse
 import functools
 import os
 import pathlib
@@ -15,6 +16,7 @@ from unittest import mock
 from support import TOP
 
 from diag_client import manual
+from diag_client.__main__ import words_of
 from diag_client.devices import GATES
 
 COMPLETION = TOP / "completions/diag.bash"
@@ -23,7 +25,7 @@ PAGE = TOP / "docs/diag.1"
 
 HELP = (TOP / "python/diag_client/help.txt").read_text()
 # What `docs/write-help` reads and writes.
-WRITTEN = ("docs/SCRIPT.md", "docs/diag.1", "README.md", "examples/c17.script", "examples/c17_commands.script", "completions/diag.bash")
+WRITTEN = ("docs/SCRIPT.md", "docs/diag.1", "docs/diag-boards.1", "README.md", "examples/c17.script", "examples/c17_commands.script", "completions/diag.bash")
 
 
 class Table(unittest.TestCase):
@@ -78,7 +80,7 @@ class OneRow(unittest.TestCase):
     def test_written(self):
         self.assertEqual([done.returncode for done in self.runs], [1, 0, 0], self.runs)
         made = "python/diag_client/help.txt, docs/diag.1, examples/c17_commands.script, docs/SCRIPT.md, README.md, completions/diag.bash"
-        self.assertIn(f"{made}: not as forms.tsv has it", self.runs[0].stderr)
+        self.assertIn(f"{made}: not as they are made", self.runs[0].stderr)
         for file, texts in {
             "python/diag_client/help.txt": (
                 "\ndiag tell FILE        tells what; prints 1000; --far may follow\n",
@@ -133,16 +135,24 @@ class Page(unittest.TestCase):
     # A small machine may have a script in its place that only says that it is not there.
     @unittest.skipUnless(shutil.which("man") and shutil.which("groff"), "there is no man")
     def test_is_set(self):
-        # Without a filter of system calls, which an emulated machine has not.
-        env = {"PATH": os.environ["PATH"], "LC_ALL": "C", "MANWIDTH": "200", "MAN_DISABLE_SECCOMP": "1"}
-        words = ["man", "--warnings", "--no-hyphenation", "--no-justification", "-l", str(PAGE)]
-        done = subprocess.run(words, capture_output=True, text=True, check=True, env=env)
-        self.assertEqual(done.stderr, "")
-        text = " ".join(re.sub("\x1b\\[[0-9]*m|.\b", "", done.stdout).split())
+        text = self.text_of(PAGE)
         # An entry and what explains it are parted by two blanks or more.
         for said in filter(None, re.split(r"  +|\n", HELP.replace("`", ""))):
             if not said.endswith(":") and not said.startswith("Exit"):
                 self.assertIn(said.strip(), text)
+        text = self.text_of(PAGE.with_name("diag-boards.1"))
+        for action in boards_words():
+            words = [str(action.help) % vars(action), *(action.option_strings or [action.metavar])]
+            self.assertEqual([word for word in words if word not in text], [])
+
+    def text_of(self, page):
+        """A manual page as it is read, without line ends."""
+        # Without a filter of system calls, which an emulated machine has not.
+        env = {"PATH": os.environ["PATH"], "LC_ALL": "C", "MANWIDTH": "200", "MAN_DISABLE_SECCOMP": "1"}
+        words = ["man", "--warnings", "--no-hyphenation", "--no-justification", "-l", str(page)]
+        done = subprocess.run(words, capture_output=True, text=True, check=True, env=env)
+        self.assertEqual(done.stderr, "")
+        return " ".join(re.sub("\x1b\\[[0-9]*m|.\b", "", done.stdout).split())
 
 
 def table(page, heading, number=0):
@@ -173,13 +183,19 @@ class Tables(unittest.TestCase):
         self.assertEqual(shown, {word: gate.most_inputs for word, gate in GATES.items()})
 
 
+def boards_words():
+    """What `diag-boards` takes."""
+    (commands,) = (action for action in words_of()._actions if isinstance(action, argparse._SubParsersAction))
+    return commands.choices["boards"]._actions
+
+
 class Completion(unittest.TestCase):
     """`completions/diag.bash`, asked as bash asks it."""
 
-    def complete(self, *words, folder=TOP, completion=COMPLETION, at=None):
+    def complete(self, *words, folder=TOP, completion=COMPLETION, at=None, tool="_diag"):
         """What is offered for the last word, or another one; `offered_as` is how, where that is asked for."""
         script = (
-            f'compopt() {{ printf "%s\\n" "$*" >&3; }}; source "$1"; shift; COMP_WORDS=(diag "$@"); COMP_CWORD={at or len(words)}; _diag 3>asked; '
+            f'compopt() {{ printf "%s\\n" "$*" >&3; }}; source "$1"; shift; COMP_WORDS=(diag "$@"); COMP_CWORD={at or len(words)}; {tool} 3>asked; '
             'printf "%s\\n" "${COMPREPLY[@]}"'
         )
         with tempfile.NamedTemporaryFile("r") as asked:
@@ -224,6 +240,26 @@ class Completion(unittest.TestCase):
             with mock.patch.dict(os.environ, HOME=folder):
                 self.assertEqual(self.complete("serve", "~/d"), ["~/deep folder"])
         self.assertIn("examples", self.complete("serve", "ex"))
+
+    def test_boards(self):
+        """The words of `diag-boards`: its two files, its options, and what these take."""
+        complete = functools.partial(self.complete, tool="_diag_boards")
+        options = {option: action for action in boards_words() for option in action.option_strings}
+        with tempfile.TemporaryDirectory() as folder:
+            for name in ("a.bench", "b.dev", "c.csv"):
+                open(f"{folder}/{name}", "w").close()
+            self.assertEqual(complete("", folder=folder), ["a.bench", "b.dev"])
+            self.assertEqual(complete("--jobs", "4", "", folder=folder), ["a.bench", "b.dev"])
+            for given in (["a.bench"], ["--csv", "a.bench"], ["x.dev", "c.csv", "-o"], ["x.dev", "c.csv", "--csv", "--output"]):
+                self.assertEqual(complete(*given, "", folder=folder), ["a.bench", "b.dev", "c.csv"])
+        self.assertEqual(complete("x.dev", "c.csv", ""), sorted(options))
+        self.assertEqual(complete("--re"), ["--resume"])
+        self.assertEqual(complete("x.dev", "c.csv", "--check", ""), ["clasp"])
+        for option, action in options.items():
+            if action.nargs != 0 and not action.choices and action.metavar not in ("RESULTS", "PATH"):
+                self.assertEqual(complete("x.dev", "c.csv", option, ""), [])
+            given = [option] if action.nargs == 0 else [option, "1"]
+            self.assertEqual(complete("x.dev", "c.csv", *given, "--"), sorted(word for word in options if word[:2] == "--" and (word != option or word == "--ignore")))
 
 
 if __name__ == "__main__":

@@ -165,7 +165,7 @@ class Bench:
         session = self.service.session()
         try:
             session.see(given)
-            return {row.wire: bit for row in session.probes() if (bit := row.fault_free) is not None}
+            return {row.wire: bit for row in session.probes(every=True) if (bit := row.fault_free) is not None}
         except Inconsistent:
             return {}
         finally:

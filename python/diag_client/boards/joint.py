@@ -125,8 +125,9 @@ class Joint:
         """
         return next((row for row in self.rank_probes(limit) if row.reduction > 0), None)
 
-    def rank_probes(self, limit: int = AT_HAND) -> list[JointProposal]:
-        """All sessions and their wires that were not seen, the best first, as `Session.rank_probes` ranks them."""
+    def rank_probes(self, limit: int = AT_HAND, among: Iterable[str] | None = None) -> list[JointProposal]:
+        """All sessions and their wires of `among`, else all that a probe reaches, that were not seen, the best first, as
+        `Session.rank_probes` ranks them."""
         if limit < 1:
             raise ValueError(f"the number of diagnoses at hand is at least 1, and not {limit}")
         # One more shows whether these are all.
@@ -140,10 +141,11 @@ class Joint:
                         row = count.setdefault(wire, [0, 0])
                         row[0] += bits[0]
                         row[1] += bits[1]
-        complete = len(self._found) <= limit
+        complete, pins = len(self._found) <= limit, self.service.pins
+        is_asked = self.service.can_reach if among is None else {self.service.other_names.get(wire, wire) for wire in among}.__contains__
         rows = [
-            JointProposal(wire, len(at_hand), zero, one, complete, session.pattern)
-            for session, count in zip(self.sessions, counts, strict=True) for wire, (zero, one) in count.items()
+            JointProposal(wire, len(at_hand), zero, one, complete, session.pattern, pins=pins.get(wire, ()))
+            for session, count in zip(self.sessions, counts, strict=True) for wire, (zero, one) in count.items() if is_asked(wire)
         ]
         # Of rows that are alike the first session and wire come first, since sorting keeps their order.
         return sorted(rows, key=lambda row: (-row.reduction, max(row.with_zero, row.with_one)))

@@ -230,11 +230,12 @@ def _joined(rows: Iterator[Row], sign: str) -> Iterator[Row]:
     waiting: collections.deque[Row] = collections.deque()
 
     def following() -> Row | None:
-        if waiting:
-            return waiting.popleft()
-        return next(rows, None)
+        return waiting.popleft() if waiting else next(rows, None)
 
-    while (row := following()) is not None:
+    while (row := waiting.popleft() if waiting else next(rows, None)) is not None:
+        if '"' not in row[1]:
+            yield row
+            continue
         text, more = row[1], list[Row]()
         while (is_open := _is_open(text, sign)) and len(more) < LONGEST_CELL and (after := following()) is not None:
             more.append(after)

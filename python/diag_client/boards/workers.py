@@ -283,8 +283,8 @@ class _Worker:
             if self._is_over:
                 raise WorkerLost("the workers were ended")
             if self._process is None:
-                # A group of its own: an interrupt at the terminal is for the one who asks.
-                words = [sys.executable, "-P", "-c", START, str(HOME)]
+                # It needs nothing else that is installed. A group of its own: an interrupt at the terminal is for the one who asks.
+                words = [sys.executable, "-P", "-S", "-c", START, str(HOME)]
                 self._process = subprocess.Popen(words, stdin=subprocess.PIPE, stdout=subprocess.PIPE, process_group=0)
             return self._process
 

@@ -281,7 +281,7 @@ class BoardShell(Shell):
         costs = ["-" if cost is None else self._cost_with(alone.wire, bit) for bit, cost in enumerate((alone.if_zero, alone.if_one))]
         if costs == ["-", "-"]:
             raise Inconsistent(self.session.pattern)
-        self.say(f"probe {alone.wire} {costs[0]} {costs[1]}")
+        self.say(self.placed(f"probe {alone.wire} {costs[0]} {costs[1]}"))
 
     def _cost_with(self, wire: str, bit: int) -> str:
         with self.session.copy() as other:
@@ -299,8 +299,8 @@ class BoardShell(Shell):
 
     def _best(self, words: list[str]) -> None:
         # An unknown name is refused.
-        among = {row.wire for row in self.session.probe_each(words)}
-        rows = [row for row in self._together().rank_probes() if not among or row.wire in among]
+        among = [row.wire for row in self.session.probe_each(words)] or None
+        rows = self._together().rank_probes(among=among)
         self.say(self._advice(rows, lambda: self._together().minimum().cost))
 
 

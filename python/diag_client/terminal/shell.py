@@ -20,7 +20,7 @@ from .. import manual
 from ..advice import Proposal
 from ..case import CHANGES, NAME_RULE, Board, Case
 from ..clash import clash_of
-from ..devices import read_device
+from ..devices import pin_in_words, read_device
 from ..errors import DiagError, Ended, Inconsistent, Refused, sentence, shown
 from ..files import write_whole
 from ..pictures import graphviz, picture
@@ -106,6 +106,11 @@ class Asked:
     before: list[str] = dataclasses.field(default_factory=list)
     requests: list[Lines | AnyLines] = dataclasses.field(default_factory=list)
     told: int = 0
+
+    @property
+    def is_apart(self) -> bool:
+        """Whether its replies are not printed as they are."""
+        return self.is_counted or self.rows[0][0] == "probes"
 
 
 class Shell(cmd.Cmd):
@@ -234,7 +239,7 @@ class Shell(cmd.Cmd):
             if words[0] in self.commands or not hasattr(self, f"do_{self.parseline(line)[0]}"):
                 try:
                     row = self._asked(words)
-                    if asked and not (asked[-1].is_counted or row.is_counted):
+                    if asked and not (asked[-1].is_apart or row.is_apart):
                         asked[-1].rows += row.rows
                     else:
                         asked.append(row)
@@ -516,11 +521,21 @@ class Shell(cmd.Cmd):
                     self.has_refused = True
                     whys = map(self.why, refusals)
                     told = [f"{REFUSED}{next(whys)}" if request.refusal(line) else text for line, text in zip(lines, told)]
+                if request.line.startswith("probes "):
+                    told = [self.placed(text) for text in told if self._is_within_reach(text)]
                 texts += map(in_words, told) if self.prompt else told
             if not request.is_answered:
                 break
             row.told += 1
         return texts
+
+    def placed(self, text: str) -> str:
+        """A line that begins with `probe` and a wire, and where a probe reaches the wire on a board."""
+        pins = self.service.pins.get(text.split(" ")[1], ()) if text.startswith("probe ") else ()
+        return f"{text}: {', '.join(map(pin_in_words, pins))}" if pins else text
+
+    def _is_within_reach(self, text: str) -> bool:
+        return not text.startswith("probe ") or self.service.can_reach(text.split(" ")[1])
 
     def _counted(self, requests: Sequence[Lines | AnyLines]) -> str:
         """How many lines that change the case were carried out, and which were refused."""

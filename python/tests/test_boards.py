@@ -6,6 +6,7 @@ import io
 import json
 import os
 import pathlib
+import pty
 import re
 import resource
 import shutil
@@ -218,6 +219,26 @@ class Results(Case):
                 found, _, said = self.run_boards(text, *words)
                 self.assertEqual(found, status, said)
                 self.assertEqual(bool(said), status > 0 and words != ())
+
+    def test_progress(self):
+        """A terminal shows how far it is, by the file that is read, and is clear again at the end."""
+        table = self.folder / "table.csv"
+        table.write_text(HEADER + "".join(f"B{number},{WRONG}\n" for number in range(30_000)))
+        ours, theirs = pty.openpty()
+        env = {**os.environ, "PYTHONPATH": str(TOP / "python")}
+        with subprocess.Popen(self.words(table, "-o", self.results, "--jobs", "1"), stderr=theirs, env=env) as run:
+            os.close(theirs)
+            told = b""
+            # The terminal is gone with the last process that has it.
+            with contextlib.suppress(OSError):
+                while came := os.read(ours, 4096):
+                    told += came
+        os.close(ours)
+        self.assertEqual(run.returncode, 0, told)
+        first, *_, last = told.decode().split("\r\x1b[K")[1:]
+        self.assertRegex(first, r"^[0-9,]+ boards, [0-9,]+ a second(, about [0-9,]+ s left)?$")
+        self.assertIn(" s left", told.decode())
+        self.assertEqual(last, "")
 
     def test_any_number_of_jobs(self):
         text = HEADER + "".join(f"B{number},{number & 1},{number >> 1 & 1},{number >> 2 & 1},0,0,1,{number >> 3 & 1}\n" for number in range(300))

@@ -18,7 +18,8 @@ option --budget= serve,compile - -
 option --sessions= serve,ask - -
 option --frames= serve .bench -
 option --levels= serve - -
-option --least serve - -'
+option --least serve - -
+option --search serve - --sessions,--frames,--levels'
 
 # Whether a word is one of a list with commas. `-` is a list of all.
 _diag_is_in() { [[ $2 == - || ,$2, == *,"$1",* ]]; }

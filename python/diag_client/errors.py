@@ -13,6 +13,7 @@ CURES = {
     "full": "close a session or drop it",
     "no levels": "give Service(levels=C)",
     "no least": "give Service(least=True)",
+    "no graph": "a search has none: give Service(engine='graph')",
 }
 
 

@@ -18,6 +18,8 @@ MOST_BUDGET = LIMITS["budget"][1]
 # An option as it is given in Python, and one that a text begins with.
 OPTION = re.compile(rf"\b({'|'.join(LIMITS)})=(\w+)")
 NAMED = re.compile(rf"^({'|'.join(LIMITS)}) is ")
+# The engine that nothing is too wide for, as it is given in Python.
+SEARCH = "engine='search'"
 # What gates are called by tools whose netlists are not taken as they are.
 OF_OTHER_TOOLS = re.compile(r"=\s*(lut|vdd|gnd|dffrse|mux|0x)", re.IGNORECASE)
 # A number that is longer is above every limit.
@@ -25,21 +27,21 @@ NUMBER = re.compile("0|[1-9][0-9]{0,8}")
 
 
 def as_options(text: str) -> str:
-    """A text with options as the command line has them, and not as Python does.
+    """A text with options as the command line of the tools has them, and not as Python does.
 
-    >>> as_options("try narrow=True, then budget=8388608")
-    'try --narrow, then --budget 8388608'
+    >>> as_options("try narrow=True, then budget=8388608, then engine='search'")
+    'try --narrow, then --budget 8388608, then --engine search'
     >>> as_options("frames is from 1 to 64, not 0")
     '--frames is from 1 to 64, not 0'
     """
-    return NAMED.sub(r"--\1 is ", OPTION.sub(r"--\1 \2", text.replace("narrow=True", "--narrow")))
+    return NAMED.sub(r"--\1 is ", OPTION.sub(r"--\1 \2", text.replace("narrow=True", "--narrow").replace(SEARCH, "--engine search")))
 
 
 def hint(status: int, last_line: str, words: Sequence[str], file: str | os.PathLike[str]) -> str:
     """What to try after a run with these words, with options as Python has them; nothing if there is nothing to say.
 
     >>> hint(3, "error: sum above 2097152", ["serve", "x.bench", "--narrow"], "x.bench")
-    'try budget=8388608'
+    "try budget=8388608, then engine='search'"
     """
     if status == 1:
         return of_refusal(pathlib.Path(file), last_line)
@@ -53,7 +55,7 @@ def hint(status: int, last_line: str, words: Sequence[str], file: str | os.PathL
 def of_refusal(file: pathlib.Path, last_line: str) -> str:
     """What is wrong where in the file, and what to try."""
     if last_line.startswith("error: bits "):
-        return "try a smaller levels=C, or leave out least"
+        return f"try a smaller levels=C, or leave out least; or try {SEARCH}, without least"
     where = faults.hint(file, last_line)
     if "fault 5 sequential" in last_line and file.suffix == ".bench":
         return "; ".join(filter(None, (where, "the netlist has flip-flops: give frames=N, the number of clock periods that are seen")))
@@ -64,11 +66,11 @@ def of_refusal(file: pathlib.Path, last_line: str) -> str:
 
 def of_sum(words: Sequence[str]) -> str:
     """How a device that is too wide may be served. `plan` takes no budget, and `load` has no file that could be another."""
-    tried = [] if "--narrow" in words else ["narrow=True"]
-    tried += [] if "plan" in words or str(MOST_BUDGET) in words else [f"budget={MOST_BUDGET}"]
     if words[:1] == ["load"]:
         return ""
-    return f"try {', then '.join(tried)}" if tried else "even so the device is too wide; a smaller piece of the circuit may be served"
+    tried = [] if "--narrow" in words else ["narrow=True"]
+    tried += [] if "plan" in words or str(MOST_BUDGET) in words else [f"budget={MOST_BUDGET}"]
+    return f"try {', then '.join([*tried, SEARCH if words[:1] == ['serve'] else f'`serve` with {SEARCH}'])}"
 
 
 def of_reading(file: pathlib.Path) -> str:
@@ -164,7 +166,7 @@ def is_read(words: Sequence[str]) -> bool:
 
 def said(status: int, last_line: str, words: Sequence[str]) -> str:
     """What the launcher says."""
-    text = as_options(hint(status, last_line, words, words[1] if len(words) > 1 else ""))
+    text = as_options(hint(status, last_line, words, words[1] if len(words) > 1 else "").replace(SEARCH, "--search"))
     return f"{text}; `diag --help` shows all forms" if text and status == 2 else text
 
 

@@ -83,7 +83,7 @@ class OfFiles(unittest.TestCase):
     def test_what_to_try(self):
         for data, last_line, said in (
             ("INPUT(d)\nq = DFF(d)", "error: line 2: fault 5 sequential", "`DFF` in `q = DFF(d)`; the netlist has flip-flops: give frames=N"),
-            ("q = LUT 0x1 ( a )", "error: line 1: fault 1 line", "`diag-netlist` writes it anew"), ("", "error: bits 3 above 2", "try a smaller levels=C"),
+            ("q = LUT 0x1 ( a )", "error: line 1: fault 1 line", "`diag-netlist` writes it anew"), ("", "error: bits 3 above 2", "try a smaller levels=C, or leave out least; or try engine='search'"),
         ):
             self.assertIn(said, hints.hint(1, last_line, ["serve"], self.write(".bench", data)))
 
@@ -102,7 +102,9 @@ class OfWords(unittest.TestCase):
             ("check x.nnf x", "`check` takes no `x`"), ("plan x.bench --frames 2", "`plan` takes no `--frames`"), ("serve x.dev --levels=3", "a blank, and no ="),
             ("serve x.bench --least --budget 2 --least", "`--least` is given twice"), ("serve x.dev --frames 2", "`--frames` is for files that end in .bench"),
             ("serve x.bench --frames 65", "--frames takes a number from 1 to 64"), ("serve x.bench --budget", "from 1 to 8388608"),
-            ("serve x.bench --levels 08 --least", "from 0 to 4096000"), ("plan caf\udce9.bench", "is not UTF-8"),
+            ("serve x.bench --levels 08 --least", "from 0 to 4096000"), ("plan x.bench --search", "`plan` takes no `--search`"),
+            *((f"serve x.bench --search {word}", "`--search` goes with --sessions, --frames, --levels alone, not with --")
+              for word in ("--least", "--narrow", "--budget 9")), ("plan caf\udce9.bench", "is not UTF-8"),
         ):
             self.assertIn(said, hints.hint(2, "error: usage", words.split(), ""), words)
 
@@ -116,9 +118,9 @@ class OfWords(unittest.TestCase):
 
     def test_sum_and_file(self):
         for words, said in (
-            ("serve x.bench", "try narrow=True, then budget=8388608"), ("serve x.bench --narrow", "try budget=8388608"), ("plan x.bench", "try narrow=True"),
-            ("serve x.bench --budget 8388608 --narrow", "even so the device is too wide; a smaller piece of the circuit may be served"),
-            ("plan x.bench --narrow", "even so the device is too wide; a smaller piece of the circuit may be served"), ("load 800", ""),
+            ("serve x.bench", "try narrow=True, then budget=8388608, then engine='search'"), ("serve x.bench --budget 8388608 --narrow", "try engine='search'"),
+            ("plan x.bench", "try narrow=True, then `serve` with engine='search'"), ("plan x.bench --narrow", "try `serve` with engine='search'"),
+            ("compile x.dev --narrow", "try budget=8388608, then `serve` with engine='search'"), ("load 800", ""),
         ):
             self.assertEqual(hints.hint(3, "error: sum above 2097152", words.split(), "x.bench"), said)
         for file, said in (

@@ -179,7 +179,7 @@ class Hints(InCheckout):
         fault = "error: line 2: fault 3 kind"
         for words, status, line, why in (
             ("serve any.bench", 1, fault, "line 2, column 5: `MAJ` in `y = MAJ(a)`"), ("serve any.bench", 1, "error: other", "README.md"),
-            ("serve any.bench", 3, "", "try --narrow, then --budget 8388608"), ("serve no.bench", 4, "", "there is no file no.bench"),
+            ("serve any.bench", 3, "", "try --narrow, then --budget 8388608, then --search"), ("serve no.bench", 4, "", "there is no file no.bench"),
             ("serve any.bench --wide", 2, "", "`serve` takes no `--wide`; `diag --help` shows all forms"),
         ):
             got, told, said = self.run_diag(*words.split(), FAKE=str(status), FAKE_LINE=line)

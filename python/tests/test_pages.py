@@ -53,11 +53,11 @@ class OneRow(unittest.TestCase):
     """A form, an option and a command that are added to the table are in all that is made of it, and nothing else is changed by hand."""
 
     ROWS = (
-        ("option", "serve", "--search", "", "flag", "", "", "", "", "--sessions --frames --levels", "searches [each case](SIZE.md)", ""),
+        ("option", "serve", "--alone", "", "flag", "", "", "", "", "--sessions --frames --levels", "searches [each case](SIZE.md)", ""),
         ("option", "serve", "--wide", "N", "number", "2", "3000", "2500", ".dev", "", "is wide", ""),
         ("form", "", "tell", "FILE", "", "", "", "", ".nnf", "", "tells [what](SIZE.md)", "`1,000`"),
         ("option", "tell", "--far", "", "flag", "", "", "", "", "", "is far", ""),
-        ("command", "", "dance", "S w=b", "0 1", "", "", "", "", "--search", "dances", "`S ok`"),
+        ("command", "", "dance", "S w=b", "0 1", "", "", "", "", "--alone", "dances", "`S ok`"),
     )
 
     def setUp(self):
@@ -84,12 +84,12 @@ class OneRow(unittest.TestCase):
         for file, texts in {
             "python/diag_client/help.txt": (
                 "\ndiag tell FILE        tells what; prints 1000; --far may follow\n",
-                "--search        searches each case; with no other option than --sessions,\n",
-                "--wide N        is wide; from 2 to 3000; 2500 if none is given\n", "\ndance S w=b         dances; b is 0 or 1; with --search\n",
+                "--alone         searches each case; with no other option than --sessions,\n",
+                "--wide N        is wide; from 2 to 3000; 2500 if none is given\n", "\ndance S w=b         dances; b is 0 or 1; with --alone\n",
             ),
             "docs/SCRIPT.md": (
-                "| `dance S w=b`, b is `0` or `1`, with `--search` | `S ok` | dances |\n", "| `--wide N` | 2 to 3,000 | 2,500 | is wide |\n",
-                "| `--search` | | off | searches [each case](SIZE.md); with no other option than `--sessions`, `--frames`, `--levels` |\n",
+                "| `dance S w=b`, b is `0` or `1`, with `--alone` | `S ok` | dances |\n", "| `--wide N` | 2 to 3,000 | 2,500 | is wide |\n",
+                "| `--alone` | | off | searches [each case](SIZE.md); with no other option than `--sessions`, `--frames`, `--levels` |\n",
                 "| `tell FILE [--far]` | `.nnf` | tells [what](SIZE.md) | `1,000` |\n", "| `serve FILE [options]` |",
             ),
             "docs/diag.1": ("[\\-\\-search]", "diag tell FILE [\\-\\-far]"),
@@ -102,8 +102,8 @@ class OneRow(unittest.TestCase):
     def test_hints(self):
         """The launcher takes the words, and says which of them do not go with each other."""
         for words, said in (
-            ("serve x.bench --search --levels 3", "no file x.bench"), ("serve x.bench --search --least", "`--search` goes with --sessions, --frames, --levels alone"),
-            ("plan x.bench --search", "`plan` takes no `--search`"), ("serve x.bench --wide 3", "`--wide` is for files that end in .dev"),
+            ("serve x.bench --alone --levels 3", "no file x.bench"), ("serve x.bench --alone --least", "`--alone` goes with --sessions, --frames, --levels alone"),
+            ("plan x.bench --alone", "`plan` takes no `--alone`"), ("serve x.bench --wide 3", "`--wide` is for files that end in .dev"),
             ("serve x.dev --wide 1", "--wide takes a number from 2 to 3000"), ("tell x.nnf --far", "no file x.nnf"), ("tell x.dev", "ends in .nnf"),
         ):
             self.assertIn(said, self.run_in("diag", *words.split()).stderr, words)
@@ -113,13 +113,13 @@ class OneRow(unittest.TestCase):
         script = "from diag_client import manual\nprint(manual.limits()['wide'], manual.usages()['dance'])"
         env = {**os.environ, "PYTHONPATH": str(self.top / "python")}
         done = subprocess.run([sys.executable, "-B", "-c", script], capture_output=True, text=True, env=env)
-        self.assertIn("(2, 3000) Usage(command='dance', words=('w=b',), text='dances; b is 0 or 1; with --search'", done.stdout)
+        self.assertIn("(2, 3000) Usage(command='dance', words=('w=b',), text='dances; b is 0 or 1; with --alone'", done.stdout)
 
     def test_completion(self):
         complete = functools.partial(Completion.complete, self, completion=self.top / "completions/diag.bash", folder=self.top)
         for words, wanted in (
             ("t", ["tell"]), ("tell x.nnf ", ["--far"]), ("serve x.dev --w", ["--wide"]), ("serve x.bench --w", []),
-            ("serve x.bench --search ", ["--frames", "--levels", "--sessions"]), ("serve x.bench --least --s", ["--sessions"]),
+            ("serve x.bench --alone ", ["--frames", "--levels", "--sessions"]), ("serve x.bench --least --s", ["--sessions"]),
         ):
             self.assertEqual(complete(*words.split(" ")), wanted, words)
 
@@ -215,7 +215,9 @@ class Completion(unittest.TestCase):
             told = manual.rows("option", form)
             self.assertEqual(self.complete(form, *given, ""), sorted(told), form)
             for word, option in told.items():
-                others = sorted(told.keys() - {word})
+                others = sorted(
+                    other for other, row in told.items() if other != word and word in (row.beside or told) and other in (option.beside or told)
+                )
                 self.assertEqual(self.complete(form, *given, word, ""), [] if option.value else others)
                 self.assertEqual(self.complete(form, *given, *option.head.split(), ""), others)
             if len(given) == 2:

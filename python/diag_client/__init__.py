@@ -21,7 +21,7 @@ from .boards.joint import Joint, JointProposal
 from .boards.results import Result
 from .boards.tables import BadTable
 from .case import Board, Case, Mode
-from .errors import BadScript, Changed, DiagError, Ended, Inconsistent, NotBuilt, OtherProcess, Refused, TimedOut
+from .errors import BadScript, Changed, DiagError, Ended, Inconsistent, NoGraph, NotBuilt, OtherProcess, Refused, TimedOut
 from .program import find_program
 from .replies import Blame, Diagnosis, Graph, Level, Minimum, Probe, Verdict
 from .service import Service
@@ -47,6 +47,7 @@ __all__ = [
     "Level",
     "Minimum",
     "Mode",
+    "NoGraph",
     "NotBuilt",
     "OtherProcess",
     "Probe",

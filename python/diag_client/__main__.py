@@ -13,6 +13,7 @@ from .errors import DiagError, sentence
 from .files import drop_unwritten, open_streams
 from .hints import as_options
 from .pictures import command as pictures
+from .service import ENGINES
 from .terminal import patterns, shell
 
 
@@ -25,6 +26,8 @@ def words_of() -> argparse.ArgumentParser:
     narrow = argparse.BooleanOptionalAction
     forest = "compile along a forest of variables by which the sum is small, or by the order of the names"
     served.add_argument("--narrow", action=narrow, default=True, help=forest)
+    fits = "what answers: a graph that is compiled before, a search, or the graph if it is ready in three seconds, and else the search"
+    served.add_argument("--engine", choices=ENGINES, default="auto", help=fits)
     served.add_argument("--budget", type=int, metavar="N", help="the greatest sum of a device that is served")
     served.add_argument("--frames", type=int, metavar="F", help="serve a netlist with flip-flops over F times")
     served.add_argument("--program", metavar="PATH", help="the program or launcher to start")

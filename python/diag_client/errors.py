@@ -91,6 +91,10 @@ class Refused(DiagError):
         return f"{self.text} (error {self.number}): {shown(self.line)}" + (f"; {self.hint}" if self.hint else "")
 
 
+class NoGraph(Refused):
+    """What was asked for is a graph, and a search has none."""
+
+
 class BadScript(DiagError, ValueError):
     """A script says what no case can be. The text has the number of the line; nothing is taken from the script."""
 

@@ -63,7 +63,8 @@ class Progress:
 def compiling(file: str | os.PathLike[str], options: Mapping[str, Any]) -> Progress:
     """The progress of a service while it is made."""
     work = "compiling" if options.get("narrow") is False else "searching a forest and compiling"
-    return Progress(f"{work if options.get('health') is None else 'reading'} {os.path.basename(os.fspath(file))}")
+    is_read = options.get("health") is not None or options.get("engine") == "search"
+    return Progress(f"{'reading' if is_read else work} {os.path.basename(os.fspath(file))}")
 
 
 def options_in(words: argparse.Namespace) -> dict[str, Any]:

@@ -10,7 +10,7 @@ import re
 from collections.abc import Callable, Iterator, Sequence
 
 from . import display
-from .errors import Refused
+from .errors import NoGraph, Refused
 from .files import write_whole
 
 REFUSAL = re.compile(r"error ([0-9]+) (.+)")
@@ -184,7 +184,7 @@ class Request:
         """Whether a line of the reply refuses the request."""
         said = self.refusal(line)
         if said is not None:
-            self.refusals.append(Refused(int(said[1]), said[2], self.line))
+            self.refusals.append((NoGraph if said[2] == "no graph" else Refused)(int(said[1]), said[2], self.line))
         return said is not None
 
 

@@ -10,15 +10,15 @@ import os
 import pathlib
 import weakref
 from collections.abc import Callable, Iterable, Iterator, Mapping, Sequence
-from typing import TYPE_CHECKING, NoReturn
+from typing import TYPE_CHECKING, Literal, NoReturn, get_args
 
 from . import hints, manual
 from .boards.joint import Joint
 from .boards.tables import BadTable, Rows, read_table
 from .case import CHANGES, Board, Case
 from .child import Child
-from .devices import input_wires, other_names, pins_at
-from .errors import Ended, NotBuilt, shown
+from .devices import input_wires, other_names
+from .errors import Ended, NotBuilt, TimedOut, shown
 from .program import find_program
 from .replies import AnyLines, Lines, Ready, Request
 from .session import BLANKS, Session, check_list
@@ -29,6 +29,12 @@ if TYPE_CHECKING:
 # All options, and the numbers that some of them and HEALTH of `ask` take, from the least to the greatest.
 OPTIONS = {row.name: row for row in manual.rows("option").values()}
 LIMITS = manual.limits()
+
+# What answers: a graph that is compiled before, a search, or the graph if it is ready soon, and else the search.
+Engine = Literal["auto", "graph", "search"]
+ENGINES: tuple[Engine, ...] = get_args(Engine)
+# So many seconds a graph may take to be ready if a search can stand in for it.
+SOON = 3.0
 
 Program = str | os.PathLike[str] | Sequence[str | os.PathLike[str]]
 
@@ -74,6 +80,31 @@ def words_of(path: str, health: int | None, options: Mapping[str, int | bool | N
     return words
 
 
+def engines_of(engine: Engine, health: int | None, options: Mapping[str, int | bool | None]) -> tuple[Engine, ...]:
+    """The engines that are tried, one after the other. Raises ValueError for none, and for what it does not have.
+
+    A graph alone has a budget, the order of the names, and the graph of the diagnoses. Who gives one of these gets no search.
+    """
+    if engine not in ENGINES:
+        raise ValueError(f"engine is one of {', '.join(ENGINES)}, not {engine!r}")
+    needs = "health" if health is not None else "least" if options["least"] else None
+    if engine == "search" and needs is not None:
+        raise ValueError(f"{needs} needs a graph, and {hints.SEARCH} has none")
+    if engine != "auto":
+        return (engine,)
+    return ("graph", "search") if needs is None and options["budget"] is None and options["narrow"] else ("graph",)
+
+
+def options_of(engine: Engine, options: Mapping[str, int | bool | None]) -> Mapping[str, int | bool | None]:
+    """The options by which an engine is started. A search has no forest and no budget."""
+    return {**options, "narrow": False, "budget": None, "search": True} if engine == "search" else options
+
+
+def is_too_large(ended: Ended) -> bool:
+    """Whether a device was refused that a search may serve: for its sum, its bits, or the memory that they take."""
+    return ended.status in (3, 6) or ended.last_line.startswith("error: bits ")
+
+
 def check_timeout(timeout: float | None) -> None:
     """Raises TypeError or ValueError for what is no time to wait."""
     if timeout is None:
@@ -105,6 +136,11 @@ class Service:
     is the program or launcher to start, a path or words; see `find_program` for what is started otherwise. `timeout` is how many seconds a
     call, this one too, may wait for its answer; then it raises `TimedOut`. Without it a call waits for as long as it takes.
 
+    With `engine="graph"` the device is compiled before it is served, and with `"search"` it is searched for each answer: every device
+    within the limits is served so, and the answers are the same. With `"auto"` it is searched if it is too wide or not compiled within
+    three seconds; with a budget, without `narrow` and for a graph it is compiled. `engine` says what answers. A search has no graph:
+    `Session.graph` raises `NoGraph`, and `least` is refused.
+
     Raises TypeError or ValueError for wrong options, `NotBuilt` if there is no program, OSError if the file cannot be read, and `Ended` if
     the program refuses the device. What is sent and what comes is logged by `diag_client` at the level DEBUG.
 
@@ -117,13 +153,14 @@ class Service:
     >>> Service("examples/c17.bench", budget=1)
     Traceback (most recent call last):
         ...
-    diag_client.errors.Ended: ... ended with status 3: error: sum above 1; try budget=8388608
+    diag_client.errors.Ended: ... ended with status 3: error: sum above 1; try budget=8388608, then engine='search'
     """
 
     def __init__(
         self,
         file: str | os.PathLike[str],
         *,
+        engine: Engine = "auto",
         health: int | None = None,
         narrow: bool = True,
         budget: int | None = None,
@@ -139,10 +176,10 @@ class Service:
         options = {"narrow": narrow, "budget": budget, "sessions": sessions, "frames": frames, "levels": levels, "least": least}
         check_options({**options, "health": health})
         check_timeout(timeout)
-        asked = words_of(os.fspath(file), health, options)
+        tried = engines_of(engine, health, options)
+        asked = {one: words_of(os.fspath(file), health, options_of(one, options)) for one in tried}
         start = find_program() if program is None else program
         words = [os.fspath(start)] if isinstance(start, (str, os.PathLike)) else [os.fspath(word) for word in start]
-        self._words = [*words, *asked]
         self._timeout = timeout
         self._numbers = itertools.count(1)
         self._given: set[str] = set()
@@ -153,8 +190,7 @@ class Service:
         # So many sessions may be open; None if that is the program's own to say.
         self.most_sessions = sessions
         self._names: tuple[tuple[str, ...], tuple[str, ...]] | None = None
-        ready = Ready()
-        self._child = self._start(ready)
+        self._child, ready = self._begin({one: [*words, *asked[one]] for one in tried})
         self.part_count = ready.parts
         self.wire_count = ready.wires
 
@@ -172,6 +208,16 @@ class Service:
 
     def __repr__(self) -> str:
         return f"<Service {self.file} parts={self.part_count} wires={self.wire_count}{'' if self.is_running else ' ended'}>"
+
+    @property
+    def engine(self) -> Engine:
+        """What answers: `graph`, or `search`.
+
+        >>> with Service("examples/c17.bench", engine="search") as service, service.session_from("see S 22=1") as session:
+        ...     service.engine, session.minimum()
+        ('search', Minimum(cost=0, faulty=()))
+        """
+        return self._engine
 
     @property
     def title(self) -> str:
@@ -383,7 +429,7 @@ class Service:
         old.stop()
         # A new program has none of the sessions that were dropped.
         self._dropped.clear()
-        child = self._start(Ready())
+        child = self._start(Ready(), self._timeout)
         try:
             known = [request for session in list(self._open.values()) for request in session.reopening()]
             # Nobody has a session whose opening was not answered, so it is not opened again.
@@ -441,10 +487,29 @@ class Service:
             name = self._dropped.popleft()
             yield Lines(name, f"close {name}", reply="closed")
 
-    def _start(self, ready: Ready) -> Child:
-        """The program, started and ready."""
+    def _begin(self, tried: Mapping[Engine, Sequence[str]]) -> tuple[Child, Ready]:
+        """The program by the first of these engines that is ready in time and does not refuse the device for its size."""
+        *others, last = tried
+        left = self._timeout
+        for engine in others:
+            # The last one may take at least half of the time.
+            soon = SOON if self._timeout is None else min(SOON, self._timeout / 2)
+            self._engine, self._words, ready = engine, tried[engine], Ready()
+            try:
+                return self._start(ready, soon), ready
+            except TimedOut:
+                pass
+            except Ended as ended:
+                if not is_too_large(ended):
+                    raise
+            left = None if left is None else left - soon
+        self._engine, self._words, ready = last, tried[last], Ready()
+        return self._start(ready, left), ready
+
+    def _start(self, ready: Ready, timeout: float | None) -> Child:
+        """The program, started, and ready within so many seconds."""
         try:
-            child = Child(self._words, self._timeout, self._closings)
+            child = Child(self._words, timeout, self._closings)
         except OSError as error:
             raise NotBuilt(f"{self._words[0]} cannot be started: {error.strerror}") from error
         try:
@@ -454,6 +519,7 @@ class Service:
         except BaseException:
             child.stop()
             raise
+        child.limit(self._timeout)
         return child
 
     def _request(self, line: str) -> Lines | AnyLines | None:

@@ -95,7 +95,10 @@ def main():
     if how == "greets":
         say("hello")
         return 0
-    if how == "refuses":
+    if how == "compiles" and "--search" not in words:
+        # Longer than anyone waits.
+        time.sleep(900)
+    if how == "refuses" or how == "refuses a graph" and "--search" not in words:
         # The last line and the status are given.
         say(words[0])
         return int(words[1])

@@ -278,11 +278,15 @@ class Canned(unittest.TestCase):
         self.assertEqual((graph.nodes, graph.parts, graph.text.splitlines()), (4, 1, self.GRAPH))
 
     def test_refused(self):
-        session = self.session(**{"levels S 8": ["error 11 no levels"], "leastnnf S": ["error 12 no least"]})
-        for number, ask in ((11, lambda: next(session.levels())), (12, session.least_graph)):
-            with self.assertRaises(Refused) as caught:
+        session = self.session(**{"levels S 8": ["error 11 no levels"], "leastnnf S": ["error 12 no least"], "dnnf S": ["error 13 no graph"]})
+        for number, error, ask, hint in (
+            (11, Refused, lambda: next(session.levels()), "levels=C"), (12, Refused, session.least_graph, "least=True"),
+            (13, NoGraph, session.graph, "engine='graph'"),
+        ):
+            with self.assertRaises(error) as caught:
                 ask()
             self.assertEqual(caught.exception.number, number)
+            self.assertIn(hint, str(caught.exception))
 
 
 @needs_program

@@ -289,6 +289,8 @@ class Options(unittest.TestCase):
             (ValueError, {"sessions": 1025}), (ValueError, {"levels": -1}), (ValueError, {"file": "any"}), (ValueError, {"file": ".bench"}),
             (ValueError, {"file": "any.dev", "frames": 2}), (ValueError, {"file": "any.nnf"}), (ValueError, {"health": 3}),
             (ValueError, {"file": "any.nnf", "health": 3, "levels": 2}), (ValueError, {"file": "any\udcff.bench"}),
+            (ValueError, {"engine": "fast"}), (ValueError, {"engine": None}), (ValueError, {"engine": "search", "least": True}),
+            (ValueError, {"engine": "search", "file": "any.nnf", "health": 3}), (TypeError, {"search": True}),
         ):
             with self.subTest(options), mock.patch("diag_client.service.Child", side_effect=AssertionError), self.assertRaises(error):
                 Service(**{"file": "any.bench", "program": "diag", **options})
@@ -301,9 +303,11 @@ class Options(unittest.TestCase):
         return str(caught.exception)
 
     def test_hints(self):
-        self.assertIn("; try budget=8388608", self.refusal("error: sum above 2097152", 3))
+        self.assertIn("; try budget=8388608, then engine='search'", self.refusal("error: sum above 2097152", 3, engine="graph"))
         self.assertIn("; try narrow=True, then budget=8388608", self.refusal("error: sum above 2097152", 3, narrow=False))
-        self.assertIn("too wide", self.refusal("error: sum above 8388608", 3, budget=8388608))
+        self.assertIn("; try engine='search'", self.refusal("error: sum above 8388608", 3, budget=8388608))
+        self.assertIn("; try a smaller levels=C", self.refusal("error: bits 3 above 2", 1, engine="graph"))
+        self.assertIn("ended with status 1: error: clauses 262145 above 262144", self.refusal("error: clauses 262145 above 262144", 1))
         self.assertIn("give frames=N", self.refusal("error: line 9: fault 5 sequential", 1))
 
     def test_line_with_a_fault(self):
@@ -341,6 +345,27 @@ class Options(unittest.TestCase):
         with self.assertRaises(Ended) as caught:
             Service("any.bench", program=[pathlib.Path(sys.executable), *stand_in("refuses", "error: read", "5")[1:]])
         self.assertIn("status 5", str(caught.exception))
+
+    def test_engines(self):
+        """A device that is refused for its size, or not compiled soon, is searched, unless a graph is asked for."""
+        wide, bits, slow = ("refuses a graph", "error: sum above 2097152", "3"), ("refuses a graph", "error: bits 3 above 2", "1"), ("compiles",)
+        no_memory, fits = ("refuses a graph", "error: memory", "6"), ("is good",)
+        for how, options, engine in (
+            (fits, {}, "graph"), (fits, {"engine": "graph"}, "graph"), (fits, {"engine": "search"}, "search"), (wide, {}, "search"),
+            (bits, {"levels": 3}, "search"), (no_memory, {}, "search"), (slow, {}, "search"), (slow, {"timeout": 60}, "search"),
+            (wide, {"engine": "search", "budget": 1, "narrow": False}, "search"), (fits, {"least": True}, "graph"),
+        ):
+            with self.subTest((how, options)), mock.patch("diag_client.service.SOON", 0.5 if how == slow else SOON):
+                with Service("any.bench", program=stand_in(*how), **options) as service, service.session("S") as session:
+                    session.see(a=1)
+                    service.restart()
+                    self.assertEqual((service.engine, dict(session.seen)), (engine, {"a": 1}))
+                    self.assertEqual([word in service._words for word in ("--search", "--narrow", "--budget")], [engine == "search", engine == "graph", False])
+        for how, options in ((wide, {"engine": "graph"}), (wide, {"budget": 9}), (wide, {"narrow": False}), (bits, {"least": True})):
+            with self.subTest((how, options)), self.assertRaises(Ended):
+                Service("any.bench", program=stand_in(*how), **options)
+        with self.assertRaises(TimedOut):
+            Service("any.bench", program=stand_in("compiles"), engine="graph", timeout=0.5)
 
     def test_narrow_is_the_default(self):
         with served("is good") as service:

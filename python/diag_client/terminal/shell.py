@@ -80,6 +80,7 @@ CURES = {
     "line too long": "a line has at most 1048576 bytes",
     "no levels": "start the terminal with --levels C",
     "no least": "start the terminal with --least",
+    "no graph": "a search has none: start the terminal with --engine graph",
     "full": "each pattern is a session, and a search opens one more for each: at most"
     f" {LIMITS['sessions'][1] // 2} patterns can be searched, and one fewer by probe",
 }
@@ -129,7 +130,7 @@ class Shell(cmd.Cmd):
         self.commands = {name: usage for name, usage in manual.usages().items() if name not in ("open", "close")}
         # Those that take one name, so that several are asked one after the other.
         self.for_each = {name for name, usage in self.commands.items() if len(usage.words) == 1 and usage.words[0] != "k"}
-        self.intro = f"{service.title}. Type ? for help." if self.prompt else None
+        self.intro = f"{service.title}, by {service.engine}. Type ? for help." if self.prompt else None
         # Whether an interrupt left the program at work on what nobody waits for.
         self.was_interrupted = False
         # The sessions that were changed, each with its case before.

@@ -253,6 +253,9 @@ def options(r, form, sum, times=0, vars=0):
     for option, row in takes.items():
         if option not in CHOSEN and chance(r, 40 if row.value else 30):
             found.append([option, *([str(r.choice(NUMBERS.get(option) or (row.least, row.most)))] if row.value else [])])
+    if ["--search"] in found and chance(r, 90):
+        # without those that do not go with it
+        found = [option for option in found if option[0] in ("--search", *takes["--search"].beside)]
     r.shuffle(found)
     words = [word for option in found for word in option]
     if chance(r, 2):

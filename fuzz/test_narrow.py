@@ -19,14 +19,14 @@ LOADER.exec_module(narrow)
 class Ends(unittest.TestCase):
     """Only what was compared counts as the same, or as different."""
 
-    def tried(self, plain, other, status=0):
-        """How a case ends whose runs write this, and whether it is kept; a run that writes nothing takes too long."""
+    def tried(self, plain, forest, search):
+        """How a case ends whose runs write this, or end with this status, and whether it is kept. A run with None takes too long."""
 
         def run(words, **options):
-            written = other if "--narrow" in words else plain
-            if written is None:
+            end = forest if "--narrow" in words else search if "--search" in words else plain
+            if end is None:
                 raise subprocess.TimeoutExpired(words, 1)
-            return subprocess.CompletedProcess(words, status, written)
+            return subprocess.CompletedProcess(words, end, b"") if isinstance(end, int) else subprocess.CompletedProcess(words, 0, end)
 
         with tempfile.TemporaryDirectory() as folder, mock.patch("subprocess.run", run):
             with mock.patch.object(narrow, "TOP", pathlib.Path(folder)):
@@ -34,12 +34,19 @@ class Ends(unittest.TestCase):
         return end, kept is not None
 
     def test_ends(self):
-        self.assertEqual(self.tried(b"a", b"a"), ("the same, status 0", False))
-        self.assertEqual(self.tried(b"a", b"b"), ("different", True))
-        self.assertEqual(self.tried(None, None), ("too long both ways", False))
-        self.assertEqual(self.tried(None, b"a"), ("too long without --narrow alone", False))
-        self.assertEqual(self.tried(b"a", None), ("too long with --narrow alone", True))
-        self.assertEqual(self.tried(b"", b"", -11), ("ended by a signal", True))
+        for ends, wanted in (
+            ((b"a", b"a", b"a"), ("the same 3 ways, status 0", False)), ((1, 1, 1), ("the same 3 ways, status 1", False)),
+            ((b"a", b"b", b"a"), ("different", True)), ((b"a", b"a", b"b"), ("different", True)), ((b"b", b"a", b"a"), ("different", True)),
+            ((3, b"a", b"a"), ("the same 2 ways, status 0", False)), ((3, b"a", b"b"), ("different", True)),
+            ((3, 3, b"a"), ("the same 1 ways, status 0", False)), ((b"a", 3, b"a"), ("different", True)), ((3, 3, 3), ("different", True)),
+            ((3, b"a", 3), ("different", True)), ((None, None, None), ("too long by plain and narrow and search", False)),
+            ((None, b"a", b"a"), ("too long by plain", False)), ((None, b"a", b"b"), ("different", True)),
+            ((None, 3, b"a"), ("too long by plain", False)), ((b"a", None, b"a"), ("too long by narrow", True)),
+            ((b"a", b"a", None), ("too long by search", True)), ((b"a", b"b", None), ("different", True)),
+            ((b"a", b"a", -11), ("ended by a signal", True)),
+        ):
+            with self.subTest(ends):
+                self.assertEqual(self.tried(*ends), wanted)
 
 
 if __name__ == "__main__":

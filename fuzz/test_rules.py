@@ -74,6 +74,20 @@ class Rows(unittest.TestCase):
             self.assertEqual(([b"error: usage\n"], 2), served(BUFFERS, [], *options))
         self.assertEqual(([b"error: usage\n"], 2), wanted(["plan", "f.bench", "--least"], {"f.bench": BUFFERS}, b"")[0])
 
+    def test_search(self):
+        script = [b"open S", b"see S a=0", b"see S c=1", b"min S", b"dnnf S", b"dnnf T", b"leastnnf S", b"levels S 2"]
+        told = [b"S open", b"S ok", b"S ok", b"S min 1 b", b"S error 13 no graph", b"T error 6 no session", b"S error 12 no least"]
+        pieces, _ = served(BUFFERS, script, "--search", "--levels", "2", "--sessions", "1")
+        self.told(pieces, b"ready 2 3", *told, b"S level 1 b", b"S level 1 c")
+        usage = [b"error: usage\n"], 2
+        for options in (["--least"], ["--narrow"], ["--search"], ["--budget", "9"], ["--frames", "0"]):
+            self.assertEqual(usage, served(BUFFERS, [], "--search", *options))
+        for form in ("plan", "compile"):
+            self.assertEqual(usage, wanted([form, "f.bench", "--search"], {"f.bench": BUFFERS}, b"")[0])
+        # over two times, of a buffer and a flip-flop
+        pieces, _ = served(b"INPUT(a)\nb = DFF(a)\n", [b"open S", b"see S a@0001=0", b"see S b@0002=1", b"min S", b"dnnf S"], "--search", "--frames", "2")
+        self.told(pieces, b"ready 1 4", *told[:3], b"S min 1 b", b"S error 13 no graph")
+
     def test_bits(self):
         # two buffers have the sum 12 and five variables: at most 48 nodes, each with 2 bits and 32 more for each 32 costs
         pieces, status = served(BUFFERS, [], "--levels", "4096000")
@@ -83,6 +97,8 @@ class Rows(unittest.TestCase):
         line = b"error: bits 2147515354 above 2147483648\n"
         self.assertEqual(([line], 1), served(text, [], "--levels", "1625632", "--least"))
         self.assertRaises(TooLarge, served, text, [], "--levels", "1625631", "--least")
+        # a search has no nodes
+        self.assertRaises(TooLarge, served, text, [], "--levels", "1625632", "--search")
         # the budget comes first
         self.assertEqual(([b"error: sum above 422\n"], 3), served(text, [], "--levels", "4096000", "--budget", "422"))
         # by another order the sum is no greater

@@ -1,5 +1,6 @@
 """A whole run: what the words ask, what is written to a file and a script, and the status."""
 
+import functools
 from dataclasses import dataclass
 
 from diag_client import manual
@@ -51,6 +52,7 @@ class Asked:
     levels: int = None  # the cost up to which states are listed
     least: bool = False
     narrow: bool = False
+    search: bool = False  # without a graph, and so without a sum
 
 
 def number(word, least, most):
@@ -100,9 +102,13 @@ class Encoded:
         if len(raw) > clauses.CLAUSES_LIMIT:
             raise Refused(f"error: clauses {len(raw)} above {clauses.CLAUSES_LIMIT}")
         self.clauses = clauses.tidied(raw)
-        self.sum = clauses.sum_of(self.clauses, SUM_TRIED)
-        if self.sum is None:
+
+    @functools.cached_property
+    def sum(self):
+        found = clauses.sum_of(self.clauses, SUM_TRIED)
+        if found is None:
             raise TooLarge()
+        return found
 
     def outer(self):
         """How many variables are parts and wires."""
@@ -149,9 +155,13 @@ def listed(asked, sum, vars, parts, system_of, script):
     many = [each for each in bits_for_node(asked, parts) if nodes * each > graphs.BITS_LIMIT]
     if many and not asked.narrow:
         return [([b"error: bits %d above %d\n" % (nodes * many[0], graphs.BITS_LIMIT)], 1)]
-    system = system_of()
-    system.levels, system.least = asked.levels, asked.least
-    return [*(([Bits(each, vars, sum)], 1) for each in many), ([ready(system), *replies(system, asked.sessions, script)], 0)]
+    return [*(([Bits(each, vars, sum)], 1) for each in many), answered(asked, system_of(), script)]
+
+
+def answered(asked, system, script):
+    """The replies of `serve`."""
+    system.levels, system.least, system.graphs = asked.levels, asked.least, not asked.search
+    return [ready(system), *replies(system, asked.sessions, script)], 0
 
 
 def ready(system):
@@ -162,17 +172,19 @@ def timed(asked, text, script):
     """`serve` over several times."""
     device = netlists.read(text, True)
     netlist = frames.TimedNetlist(device, asked.frames)
+
+    def system():
+        if frames.steps_of(device, asked.frames) > STEPS_TRIED:
+            raise TooLarge()
+        return frames.TimedSystem(netlist)
+    if asked.search:
+        return [answered(asked, system(), script)]
     # whether the sum is above a small budget is known long before the sum is
     sum = clauses.sum_of(netlist.clauses(), min(asked.budget, SUM_TRIED))
     if sum is None and asked.budget > SUM_TRIED:
         raise TooLarge()
     if sum is None and not asked.narrow:
         return [above(asked.budget)]
-
-    def system():
-        if frames.steps_of(device, asked.frames) > STEPS_TRIED:
-            raise TooLarge()
-        return frames.TimedSystem(netlist)
     answers = listed(asked, sum or asked.budget, netlist.vars(), len(device.parts), system, script)
     return answers if sum else [above(asked.budget), *answers]
 
@@ -181,6 +193,8 @@ def described(asked, text, script):
     """What is done over a device."""
     read = next(read for ending, read in DEVICES.items() if asked.file.endswith(ending))
     encoded = Encoded(read(text))
+    if asked.search:
+        return [answered(asked, encoded.system(), script)]
     if asked.form == "plan":
         told = Sum(encoded.sum) if asked.narrow else f"sum {encoded.sum}\n".encode()
         return weighed(encoded, LIMITS["budget"][1], asked.narrow, ([encoded.sizes(), told], 0))

@@ -27,12 +27,12 @@ REASONS = {int(number): text for number, text in re.findall("^[|] `(?:S )?error 
 class System:
     """What sessions are asked over. Variables are the parts, true if ok, then the wires, then others; `table` has the rows that
     are allowed. `text_of(held, seen)` gives the one text of `dnnf` if it is known, and else None. `levels` is the cost up to which
-    states are listed, if they are, and `least` whether the graph of the diagnoses is told."""
+    states are listed, if they are, `least` whether the graph of the diagnoses is told, and `graphs` whether there is a graph at all."""
 
     def __init__(self, parts, wires, costs, table, vars, text_of=lambda held, seen: None):
         self.parts, self.wires, self.costs = parts, wires, costs
         self.table, self.vars, self.text_of = table, vars, text_of
-        self.levels, self.least = None, False
+        self.levels, self.least, self.graphs = None, False, True
         self.known, self.listed = {}, {}
 
     def allowed(self, held, seen):
@@ -186,6 +186,7 @@ class Session:
         return replies + [b"end"]
 
     def dnnf(self):
+        demand(self.system.graphs, 13)
         text, parts = self.system.text_of(self.held, self.seen), len(self.system.parts)
         return [b"dnnf", Graph(parts, parts, self.system.allowed(self.held, self.seen)) if text is None else Text(text)]
 

@@ -70,7 +70,7 @@ def of_sum(words: Sequence[str]) -> str:
         return ""
     tried = [] if "--narrow" in words else ["narrow=True"]
     tried += [] if "plan" in words or str(MOST_BUDGET) in words else [f"budget={MOST_BUDGET}"]
-    return f"try {', then '.join([*tried, SEARCH if words[:1] == ['serve'] else f'`serve` with {SEARCH}'])}"
+    return f"try {', then '.join([*tried, SEARCH if 'serve' in words else f'`serve` with {SEARCH}'])}"
 
 
 def of_reading(file: pathlib.Path) -> str:

@@ -14,7 +14,7 @@ from unittest import mock
 from support import C17, EXAMPLES, needs_program, replies, stand_in
 
 from diag_client import (
-    Blame, Diagnosis, Ended, Inconsistent, Level, Minimum, NotBuilt, Probe, Refused, Service, Verdict, find_program, program,
+    Blame, Diagnosis, Ended, Inconsistent, Level, Minimum, NoGraph, NotBuilt, Probe, Refused, Service, Verdict, find_program, program,
 )
 from diag_client.case import SESSION_NAME
 

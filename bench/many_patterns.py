@@ -73,12 +73,16 @@ def solved(ground, *options):
     """What clasp finds: the least cost and the sets that it lists, or None; its seconds; and whether it came to its end."""
     start = time.monotonic()
     told = subprocess.run([*CLASP, *options, str(ground)], capture_output=True, text=True, check=False).stdout
-    seconds = time.monotonic() - start
+    return found_in(told)[0], time.monotonic() - start, found_in(told)[1]
+
+
+def found_in(told):
+    """What clasp found, by what it printed, and whether it came to its end."""
     answers = [(int(cost), tuple(sorted(re.findall(r'faulty\("([^"]+)"\)', row))))
                for row, cost in re.findall(r"^ANSWER\n(.*)\nCOST ([0-9]+)$", told, re.MULTILINE)]
     is_done = bool(re.search("^(OPTIMUM|INCONSISTENT)", told, re.MULTILINE))
     least = min(answers, default=(None,))[0]
-    return answers and (least, {row for cost, row in answers if cost == least}) or None, seconds, is_done
+    return answers and (least, {row for cost, row in answers if cost == least}) or None, is_done
 
 
 class Board:

@@ -78,7 +78,7 @@ class Bench:
         self.scene = Scene(file)
         self.shelf = Shelf(file)
         self.other_names = other_names(file)
-        self.title = self.service.title
+        self.title = f"{self.service.title}, by {self.service.engine}"
         self.boards: dict[str, Board] = {}
         self._watched: dict[str, Board] = {}
         self._uses = 0

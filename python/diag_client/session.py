@@ -293,7 +293,7 @@ class Session:
     def graph(self) -> Graph:
         """The graph of all health states that agree with the case, not only those of the least cost.
 
-        >>> with Service("examples/c17.bench") as service, service.session() as session:
+        >>> with Service("examples/c17.bench", engine="graph") as service, service.session() as session:
         ...     session.graph().parts
         6
         """

@@ -368,7 +368,7 @@ class Options(unittest.TestCase):
             Service("any.bench", program=stand_in("compiles"), engine="graph", timeout=0.5)
 
     def test_narrow_is_the_default(self):
-        with served("is good") as service:
+        with served("is good", engine="graph") as service:
             self.assertIn("--narrow", service._words)
         with served("is good", narrow=False) as service:
             self.assertNotIn("--narrow", service._words)

@@ -54,7 +54,7 @@ class Answers(unittest.TestCase):
     """Each answer is what the program prints."""
 
     def setUp(self):
-        self.service = self.enterContext(Service(C17))
+        self.service = self.enterContext(Service(C17, engine="graph"))
         self.session = self.enterContext(self.service.session("S"))
 
     def test_answers(self):
@@ -453,7 +453,7 @@ class Cases(unittest.TestCase):
     """A case as a script, and what wires should be."""
 
     def setUp(self):
-        self.service = self.enterContext(Service(C17))
+        self.service = self.enterContext(Service(C17, engine="graph"))
         self.session = self.enterContext(self.service.session("S"))
 
     def test_script(self):

@@ -83,7 +83,7 @@ class Case:
         self.ours = first, further, every
         source, ground = folder / "case.lp", folder / "case.ground"
         source.write_text(many_patterns.ENCODING + many_patterns.facts(board.inputs, board.gates, [(seen, {})]))
-        _, grounding, _ = run.run(["gringo", str(source)], "/dev/null", ground)
+        _, grounding, _ = run.run(["gringo", "--warn=none", str(source)], "/dev/null", ground)
         solving, one = self.solved(ground)
         listing, sets = self.solved(ground, "--opt-mode=optN", "-n", str(LISTED))
         self.theirs = [None if one is None else grounding + solving, None if one is None else solving, None if sets is None else grounding + listing]

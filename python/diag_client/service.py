@@ -17,7 +17,7 @@ from .boards.joint import Joint
 from .boards.tables import BadTable, Rows, read_table
 from .case import CHANGES, Board, Case
 from .child import Child
-from .devices import input_wires, other_names
+from .devices import input_wires, other_names, pins_at
 from .errors import Ended, NotBuilt, TimedOut, shown
 from .program import find_program
 from .replies import AnyLines, Lines, Ready, Request

@@ -75,6 +75,7 @@ _diag_boards_table='-h -
 --help -
 --narrow -
 --no-narrow -
+--engine= auto,graph,search
 --budget= -
 --frames= -
 --program= file

@@ -53,7 +53,8 @@ class Proposal:
         of = f"of {self.at_hand} diagnoses" if self.complete else f"of the first {self.at_hand} diagnoses"
         counts = f"{of} {self.with_zero} {goes} on with 0 and {self.with_one} with 1"
         at = " or ".join(map(pin_in_words, self.pins[:MOST_PINS]))
-        return f"measure {f'{at} ({self.wire})' if at else self.wire}: {counts}, so that {float(self.expected_left):.1f} are expected to be left"
+        wire = f"{at} ({self.wire})" if at else self.wire
+        return f"measure {wire}: {counts}, so that {float(self.expected_left):.1f} are expected to be left"
 
 
 def rank(session: Session, among: Iterable[str] | None, limit: int) -> list[Proposal]:
@@ -78,7 +79,7 @@ def rank(session: Session, among: Iterable[str] | None, limit: int) -> list[Prop
         count = by_diagnosis if len(either) >= max(MANY, len(at_hand) // 2) else by_wire
         counts |= count(scratch, at_hand, either)
     pins, complete = session.service.pins, len(found) <= limit
-    proposals = [Proposal(wire, len(at_hand), *bits, complete, pins=pins.get(wire, ())) for wire, bits in counts.items()]
+    proposals = [Proposal(wire, len(at_hand), zero, one, complete, pins=pins.get(wire, ())) for wire, (zero, one) in counts.items()]
     return sorted(proposals, key=lambda row: (-row.reduction, max(row.with_zero, row.with_one), row.wire))
 
 

@@ -52,7 +52,7 @@ def bus_of(name: str, wires: Collection[str]) -> list[str]:
     >>> bus_of("a", {"a0", "a1", "b0"}), bus_of("a[1:1]", {"a0", "a1"}), bus_of("c", {"a0"})
     (['a0', 'a1'], ['a1'], [])
     """
-    if name in wires:
+    if not name or name in wires:
         return []
     part = RANGE.fullmatch(name)
     for form in BITS_OF:

@@ -1,5 +1,7 @@
 """Records and boards of the page at the bench."""
 
+import os
+import tempfile
 import unittest
 from unittest import mock
 
@@ -8,9 +10,42 @@ from support import C17, EXAMPLES, SOON, kill, needs_program
 from diag_client import Board, Case
 from diag_client.bench import boards, records
 from diag_client.bench.records import Bad, Record
+from diag_client.bench.saved import Shelf
 
 KNOWN = records.Known({"a", "b", "pattern2"}, {"g"}, {"a", "b"})
 ZEROS = "1=0 2=0 3=0 6=0 7=0"
+
+
+class Folder(unittest.TestCase):
+    """Where boards and the tokens of the addresses are kept."""
+
+    def setUp(self):
+        place = tempfile.TemporaryDirectory()
+        self.addCleanup(place.cleanup)
+        self.enterContext(mock.patch.dict(os.environ, {"DIAG_BOARDS": place.name}))
+
+    def shelf(self):
+        shelf = Shelf(C17)
+        self.addCleanup(shelf.close)
+        return shelf
+
+    def test_it_is_the_users_alone(self):
+        shelf = self.shelf()
+        shelf.close()
+        shelf.folder.chmod(0o777)
+        self.assertEqual(self.shelf().folder.stat().st_mode & 0o777, 0o700)
+
+    def test_a_folder_of_another_user(self):
+        """It is not used: its owner could choose the token."""
+        shelf = self.shelf()
+        shelf.keep("addresses", '{"token": "chosen"}')
+        shelf.close()
+        with mock.patch("pathlib.Path.chmod", side_effect=PermissionError(1, "Operation not permitted")):
+            other = self.shelf()
+        self.assertEqual((other.addresses(), other.earlier(), other.text("a" * 16)), ({}, [], None))
+        other.keep("addresses", "{}")
+        self.assertEqual(other.why, "boards are not saved: [Errno 1] Operation not permitted")
+        self.assertEqual(shelf.addresses(), {"token": "chosen"})
 
 
 class Texts(unittest.TestCase):

@@ -139,7 +139,7 @@ class Pasted(unittest.TestCase):
     def test_pairs(self):
         for text in ("a=0 b=1 c=x", "a = 0, b= 1; c =Z", "a=0;b=1;c=", "\ufeffa=0\r\nb=1\r\nc=-\r\n", "# U7 = 74283\na=0 b=1 c=?"):
             with self.subTest(text):
-                self.assertEqual(records.read_readings(text, self.KNOWN), [("", {"a": 0, "b": 1, "c": None})])
+                self.assertEqual(records.read_readings(text, self.KNOWN), [(None, {"a": 0, "b": 1, "c": None})])
 
     def test_two_values(self):
         for text in ("a=0 b=1 a=1", "a=X a=0"):

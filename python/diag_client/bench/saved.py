@@ -41,6 +41,8 @@ class Shelf:
             self.folder = state_folder() / (name if number == 1 else f"{name}-{number}")
             try:
                 self.folder.mkdir(mode=0o700, parents=True, exist_ok=True)
+                # One that is there already may be open to others. Of a folder of another user this is refused.
+                self.folder.chmod(0o700)
                 self._lock = open(self.folder / "lock", "a")
                 fcntl.flock(self._lock, fcntl.LOCK_EX | fcntl.LOCK_NB)
                 return
@@ -49,6 +51,8 @@ class Shelf:
                 self.close()
             except OSError as error:
                 self.why = f"boards are not saved: {error}"
+                # Nothing is read there either, since whoever may write there could choose the tokens.
+                self.folder = pathlib.Path(os.devnull)
                 return
 
     def close(self) -> None:
@@ -68,7 +72,7 @@ class Shelf:
             write_whole(self.folder / name, text.encode("utf-8", "surrogateescape"), 0o600)
             self.why = ""
         except OSError as error:
-            self.why = f"boards are not saved: {error}"
+            self.why = self.why or f"boards are not saved: {error}"
 
     def place(self, board: str) -> pathlib.Path:
         """The file of a board."""

@@ -238,8 +238,8 @@ class Handler(http.server.BaseHTTPRequestHandler):
         is_open = bench.scene.open_at_first if not isinstance(wanted, list) else frozenset(path for path in wanted if isinstance(path, str))
         drawing = bench.drawing(is_open, board.cone() if act.get("wrong") is True else None)
         kinds = bench.scene.device.blocks
-        own = {"inputs": bench.scene.inputs, "outputs": bench.scene.outputs, "frames": bench.frames, "has_levels": bench.has_levels}
-        own["chips"] = bench.scene.chips
+        own: dict[str, Any] = {"inputs": bench.scene.inputs, "outputs": bench.scene.outputs, "chips": bench.scene.chips}
+        own |= {"frames": bench.frames, "has_levels": bench.has_levels}
         named = {"title": bench.title, "others": bench.other_names, "open": sorted(is_open & kinds.keys()), "is_design": bool(kinds)}
         return drawing | own | named
 

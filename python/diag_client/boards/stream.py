@@ -230,9 +230,11 @@ def _joined(rows: Iterator[Row], sign: str) -> Iterator[Row]:
     waiting: collections.deque[Row] = collections.deque()
 
     def following() -> Row | None:
-        return waiting.popleft() if waiting else next(rows, None)
+        if waiting:
+            return waiting.popleft()
+        return next(rows, None)
 
-    while (row := waiting.popleft() if waiting else next(rows, None)) is not None:
+    while (row := following()) is not None:
         if '"' not in row[1]:
             yield row
             continue

@@ -4,13 +4,12 @@ use Rattle.std.specs.Prelude.{slice_get}
 use Rattle.std.proofs.lemmas.List.{get_or-replicate, length-replicate}
 use Rattle.std.proofs.lemmas.Option.{slice_get-get_or}
 use Rattle.state_rules.specs.Bits.{bit_in}
-use Rattle.state_rules.proofs.Members.{In}
-use Rattle.probe_report.specs.declared.verdicts.Blame.{Blame}
-use Rattle.probe_report.specs.declared.verdicts.Blame.TheVariants.{Always, Sometimes, Never, Inconsistent}
-use Rattle.probe_report.specs.Verdicts.{verdict}
-use Rattle.probe_report.proofs.Blames.{verdict-never, verdict-always, verdict-sometimes}
-use Rattle.minimiser.proofs.Models.{least-none}
-use Rattle.state_rules.proofs.Members.{empty-none}
+use Rattle.state_rules.proofs.Members.{In, empty-none}
+use Rattle.state_rules.specs.declared.blame.Blame.{Blame}
+use Rattle.state_rules.specs.declared.blame.Blame.TheVariants.{Always, Sometimes, Never, Inconsistent}
+use Rattle.state_rules.specs.Verdicts.{verdict}
+use Rattle.state_rules.proofs.Verdicts.{verdict-never, verdict-always, verdict-sometimes}
+use Rattle.state_rules.proofs.Diagnoses.{least-none}
 use Rattle.clause_answers.specs.Questions.{Question, models, least_under, diagnoses_under, blame_of}
 use Rattle.clause_answers.specs.inner.Listed.{Meets}
 use Rattle.clause_answers.specs.inner.Reported.{Seen, AllHave, Notes, Settles, AreNoted, AreSettled}

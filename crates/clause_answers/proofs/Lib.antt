@@ -11,7 +11,6 @@ pub mod Completing
 pub mod Lists
 pub mod StateWords
 pub mod Kept
-pub mod RisingLists
 pub mod RisingStates
 pub mod Probes
 pub mod Blames

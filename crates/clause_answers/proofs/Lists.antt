@@ -13,7 +13,7 @@ use Rattle.state_rules.proofs.Members.{In, In-filter, In-filtered, bits_in, bits
 use Rattle.state_rules.proofs.Order.{Sorted, Sorted-states, Sorted-filter, first-sorted}
 use Rattle.node_costs.proofs.States.{least-out}
 use Rattle.conditioner.specs.Models.{fits_evidence}
-use Rattle.minimiser.proofs.Models.{least-none}
+use Rattle.state_rules.proofs.Diagnoses.{least-none}
 use Rattle.diagnosis_lister.specs.declared.listing.Step.TheVariants.{Found, End, Inconsistent}
 use Rattle.diagnosis_lister.specs.Listing.{step_of}
 use Rattle.diagnosis_lister.specs.inner.Fixing.{IsFirst, Has}

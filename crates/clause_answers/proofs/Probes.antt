@@ -6,7 +6,7 @@ use Rattle.state_rules.specs.Bits.{bit_in, same_bit}
 use Rattle.state_rules.proofs.Bits.{same_bit-refl}
 use Rattle.clause_encoder.specs.Clauses.{literal}
 use Rattle.conditioner.specs.Models.{fits_evidence, total_cost}
-use Rattle.minimiser.specs.Stored.{cost_in}
+use Rattle.state_rules.specs.Numbers.{cost_in}
 use Rattle.minimiser.proofs.Sums.{cost_in-some}
 use Rattle.clause_answers.specs.Questions.{Question, least_with}
 use Rattle.clause_answers.specs.inner.Asking.{Fits, cost_of, IsMinimum}

@@ -10,14 +10,13 @@ use Rattle.state_rules.specs.Levels.{levels, is_level_before, levels_rest}
 use Rattle.state_rules.proofs.Members.{In, In-filter, In-filtered, empty-none}
 use Rattle.conditioner.specs.Models.{total_cost}
 use Rattle.minimiser.specs.declared.pass.TheConstants.{TOTAL_LIMIT}
-use Rattle.minimiser.proofs.Models.{least-none}
+use Rattle.state_rules.proofs.Diagnoses.{least-none}
 use Rattle.diagnosis_lister.specs.inner.Fixing.{IsFirst, Has}
 use Rattle.level_lister.specs.Listing.{level_step}
 use Rattle.level_lister.specs.declared.levels.LevelStep.TheVariants.{Found, End, Inconsistent}
 use Rattle.level_lister.specs.inner.Searching.{IsFirstLevel, is_later}
 use Rattle.level_lister.proofs.FirstByCost.{cheaper-before, same-before, before-cases}
-use Rattle.level_lister.proofs.RisingCosts.{Rising, some_levels-in, some_levels-has}
-use Rattle.clause_answers.proofs.RisingLists.{Rising-filter, Rising-levels, first-rising}
+use Rattle.level_lister.proofs.RisingCosts.{Rising, Rising-filter, Rising-levels, first-rising, some_levels-in, some_levels-has}
 use Rattle.clause_answers.specs.Questions.{Question, models, least_under, later_levels}
 use Rattle.clause_answers.specs.inner.Asking.{Fits, cost_of, LeastFrom}
 use Rattle.clause_answers.specs.inner.Listed.{Meets, Shows, is_after, FindsNext}

@@ -7,8 +7,8 @@ use Rattle.state_rules.specs.Ranking.{Test, passing, least, diagnoses}
 use Rattle.state_rules.specs.Levels.{levels, levels_rest}
 use Rattle.clause_encoder.specs.Clauses.{ClauseList, all_hold}
 use Rattle.conditioner.specs.Models.{fits_evidence}
-use Rattle.probe_report.specs.declared.verdicts.Blame.{Blame}
-use Rattle.probe_report.specs.Verdicts.{verdict}
+use Rattle.state_rules.specs.declared.blame.Blame.{Blame}
+use Rattle.state_rules.specs.Verdicts.{verdict}
 
 -- Clauses, the cost of each part's failure, and what is known of each variable. The first variables say of the parts that they are ok.
 pub record Question : Type 0 where

@@ -7,7 +7,7 @@ ghost use Rattle.clause_answers.specs.inner.Reported.{AreNoted, AreSettled, note
 use crate::case_search::{CaseSearch, aim};
 use crate::finding::{find, find_part};
 use crate::oracle::Oracle;
-use probe_report::Blame;
+use state_rules::Blame;
 
 impl CaseSearch {
     /// Writes whether each part is faulty in all diagnoses, in some or in none. It asks only for what the states that were met do not show.

@@ -112,7 +112,7 @@ fn sift(oracle: &mut Oracle, oks: &mut [bool], tried: &mut [bool], literals: &[i
     ensures same { oracle.new ≡ record oracle.old { bits = oracle.new.bits } }
 {
     for part in from..oks.len() {
-        if tried[part] {
+        if tried[part] || oracle.is_ok(part as u32) {
             continue;
         }
         if find_part(oracle, part, false) {

@@ -3,16 +3,13 @@ ghost use Rattle.std.specs.Prelude.{◌≡◌, ◌<◌, All, IfSome, Some, lengt
 ghost use Rattle.std.specs.Option.{option_map};
 ghost use Rattle.state_rules.specs.Ranking.{cost};
 ghost use Rattle.conditioner.specs.Evidence.{bits_of};
-ghost use Rattle.conditioner.specs.Models.{total_cost};
 ghost use Rattle.level_lister.specs.Listing.{level_step};
 ghost use Rattle.clause_answers.specs.Questions.{models, least_under, later_levels};
 ghost use Rattle.clause_answers.specs.inner.Listed.{Shows};
 ghost use Rattle.clause_answers.specs.inner.Levels.{NextCost, FindsLevel, FindsSame, Later};
 
 use crate::case_search::CaseSearch;
-use conditioner::is_faulty;
-use level_lister::LevelStep;
-use minimiser::TOTAL_LIMIT;
+use level_lister::{LevelStep, state_cost};
 
 impl CaseSearch {
     /// Finds the next state that costs at most `top`, by cost and then by order: the first of all, or the first after a point, which need not
@@ -117,20 +114,4 @@ impl CaseSearch {
         }
         self.oracle.least_from(from, top, &[])
     }
-}
-
-// The sum of the costs of the faulty parts of a state.
-#[tactic(auto, using(level_lister::proofs::StateCosts::cost_steps))]
-fn state_cost(state: &[u32], costs: &[u32]) -> u32
-    requires long { length state.now ≡ length costs.now }
-    requires total { total_cost costs.now < TOTAL_LIMIT }
-    ensures { result ≡ cost costs.now (bits_of state.now) }
-{
-    let mut total = 0;
-    for (part, cost) in costs.iter().enumerate() {
-        if is_faulty(state[part]) {
-            total += *cost;
-        }
-    }
-    total
 }

@@ -1,6 +1,6 @@
 ghost use Rattle.std.specs.Prelude.{◌≡◌, ℕ, ◌+◌, ◌/◌, ◌%◌, ◌<◌, ◌≤◌, Bool, true, false, not, if◌then◌else◌, List, Some, is_some, length, slice_index};
 ghost use Rattle.state_rules.specs.Bits.{bit_in, same_bit};
-ghost use Rattle.probe_report.specs.Probed.{probed};
+ghost use Rattle.state_rules.specs.Numbers.{probed};
 ghost use Rattle.clause_answers.specs.Questions.{Question, least_under, least_with};
 ghost use Rattle.clause_answers.specs.inner.Asking.{Fits, cost_of};
 ghost use Rattle.clause_answers.specs.inner.Reported.{IsRight, AreRight, AreOpen, AreKept};
@@ -27,7 +27,7 @@ impl CaseSearch {
 
     /// Computes for all wires at once what `probe` returns for one. Returns whether some state agrees with the evidence.
     ///
-    /// The wires' variables follow the parts'. [`probe_report::cost_of`] reads the numbers, two for each wire.
+    /// The wires' variables follow the parts'. [`state_rules::cost_of`] reads the numbers, two for each wire.
     pub fn probe_all(&mut self, numbers: &mut [u32]) -> bool
         requires even { length numbers.old % 2 ≡ 0 }
         requires wires { length self.old.costs + length numbers.old / 2 ≤ self.old.cnf.vars }

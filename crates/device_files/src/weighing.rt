@@ -1,10 +1,11 @@
 ghost use Rattle.std.specs.Prelude.{◌≡◌, ◌<◌, ◌≤◌, ℕ, Bool, Option, Ok, IfOk, IfErr};
 ghost use Rattle.text_rules.specs.Expected.{IsExpectedFault, Fulfils};
 ghost use Rattle.clause_encoder.specs.Clauses.{ClauseList};
+ghost use Rattle.clause_encoder.specs.Encoding.{encoded};
 ghost use Rattle.branch_states.specs.Branches.{sum_of};
 ghost use Rattle.elimination_forests.specs.Forests.{Forest};
 ghost use Rattle.device_files.specs.Choices.{clauses_by, ByClauses, IsChosen, HasSum, IsListOf};
-ghost use Rattle.device_files.specs.Weighing.{within};
+ghost use Rattle.device_files.specs.Weighing.{if_not_too_many, within};
 ghost use Rattle.device_files.specs.Refusals.{refusal_output};
 
 use crate::Memory;
@@ -18,6 +19,7 @@ use tree_finder::{Narrowed, narrow};
 /// Returns the clauses of a device. An error says that there are too many, whatever the budget, or that memory ran out.
 pub fn clauses_of(alloc: Global, device: &Device) -> Result<Cnf, Refusal>
     ensures list { IfOk result (IsListOf device.now) }
+    ensures many { IfErr result (λ refusal. IsExpectedFault (refusal_output refusal) (if_not_too_many (encoded device.now))) }
     ensures fault { IfErr result (λ refusal. (is_narrow : Bool) (choose : ClauseList → Option Forest) (budget : ℕ)
         → IsExpectedFault (refusal_output refusal) (within budget (clauses_by is_narrow choose device.now))) }
 {

@@ -1,5 +1,5 @@
 -- The health states that agree with a case: they fit some bits of the wires.
-use Rattle.std.specs.Prelude.{ℕ, Bool, ◌&&◌, List, length}
+use Rattle.std.specs.Prelude.{ℕ, Bool, true, ◌&&◌, List, length}
 use Rattle.std.specs.List.{list_any}
 use Rattle.text_rules.specs.Names.{Name}
 use Rattle.state_rules.specs.Bits.{lists_of_bits}
@@ -21,6 +21,7 @@ fitting_system parts wires costs fits_by = record {
   costs = costs;
   consistent = λ known. passing (length parts) (is_consistent fits_by (length wires) known);
   extras = no_extras;
+  graphs = true;
   texts = open_texts;
 }
 

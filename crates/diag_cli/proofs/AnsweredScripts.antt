@@ -11,7 +11,6 @@ use Rattle.session_rules.specs.Items.{Item}
 use Rattle.session_rules.specs.Sessions.{Table, Step, left_by, replies}
 use Rattle.session_rules.specs.Moves.{line_moves, script_moves}
 use Rattle.session_rules.specs.Spelling.{Writes, WritesPart}
-use Rattle.session_rules.specs.GraphSystems.{system_of}
 use Rattle.session_rules.specs.Carrying.{Makes, BreaksOff}
 use Rattle.session_rules.specs.CaseSizes.{HasCasesOf}
 use Rattle.session_rules.proofs.Spellings.{writes_more, spells_one}
@@ -19,14 +18,15 @@ use Rattle.session_rules.proofs.Begun.{part_more, part_after}
 use Rattle.session_rules.proofs.Broken.{said-append, said-replies, breaks_after, script_moves-append}
 use Rattle.session_rules.proofs.KeptCases.{HasCases-empty}
 use Rattle.session_core.proofs.ReplyTexts.{replies-have, broken_begins_more}
-use Rattle.session_core.specs.Services.{Shown, moves_of, IsSound}
+use Rattle.session_core.specs.Services.{Shown, moves_of, IsSound, open_system}
 use Rattle.session_core.specs.declared.serving.TheConstants.{READ_LIMIT}
 use Rattle.session_core.specs.Serving.{FailsBehind, FailsAtOnce}
 use Rattle.session_core.proofs.WrittenReplies.{makes_over, breaks_over, parted}
 use Rattle.device_files.specs.declared.status.Status.{Status}
 use Rattle.device_files.specs.Output.{Output, FulfilsOutput}
-use Rattle.diag_cli.specs.Behaviours.{ready_line, answers_of}
+use Rattle.diag_cli.specs.Behaviours.{ready_line}
 use Rattle.diag_cli.specs.Fulfilled.{WritesFirst, IsStopped}
+use Rattle.diag_cli.specs.inner.Serving.{answers_by}
 
 -- ---- nothing is read after a write that failed
 
@@ -67,20 +67,20 @@ ready_put system parts wires a b p w grown = record {
 
 module _ (shown : Shown) (sound : IsSound shown) where
   abbrev system : System
-  system = system_of shown.subject
+  system = open_system shown.system
 
   no_cases : (table : Table) → table ≡ [] → HasCasesOf system table
   no_cases table none = subst (HasCasesOf system) (sym none) (HasCases-empty system)
 
   -- The line `ready` was written, and no session is open.
-  module _ (old : Table) (parts wires : ℕ) (a b : Option (List ℕ)) (none : old ≡ []) (p : parts ≡ length shown.subject.parts) (w : wires ≡ length shown.subject.wires)
+  module _ (old : Table) (parts wires : ℕ) (a b : Option (List ℕ)) (none : old ≡ []) (p : parts ≡ length shown.system.parts) (w : wires ≡ length shown.system.wires)
       (ready : Appends a b (spaced (codes "ready" ∷ decimal parts ∷ decimal wires ∷ []))) where
     -- then the replies to lines
-    pub ready_then : (new : Table) (lines : List (List ℕ)) (c : Option (List ℕ)) → Makes old new (script_moves (moves_of shown) old lines) b c → Writes a c (answers_of (system_of shown.subject) shown.limit lines)
-    ready_then new lines c made = grind (arith, makes_over shown sound.valid sound.room sound.few sound.least old new lines b c (no_cases old none) made, writes_more a b c (ready_line system ∷ []) (replies system shown.limit [] lines) (ready_put system parts wires a b p w ready), said-replies system shown.limit old lines)
+    pub ready_then : (new : Table) (lines : List (List ℕ)) (c : Option (List ℕ)) → Makes old new (script_moves (moves_of shown) old lines) b c → Writes a c (answers_by shown lines)
+    ready_then new lines c made = grind (arith, makes_over shown sound.offered.texts old new lines b c (no_cases old none) made, writes_more a b c (ready_line system ∷ []) (replies system shown.limit [] lines) (ready_put system parts wires a b p w ready), said-replies system shown.limit old lines)
 
     -- if lines and more were answered, the lines were answered first
-    pub answered_first : (new : Table) (lines more : List (List ℕ)) (c : Option (List ℕ)) → Makes old new (script_moves (moves_of shown) old (lines ++ more)) b c → WritesFirst a c (answers_of (system_of shown.subject) shown.limit lines)
+    pub answered_first : (new : Table) (lines more : List (List ℕ)) (c : Option (List ℕ)) → Makes old new (script_moves (moves_of shown) old (lines ++ more)) b c → WritesFirst a c (answers_by shown lines)
     answered_first new lines more c made =
         let first = first_of_all (moves_of shown) old new lines more b c made in
         grind (arith, ready_then (left_by old (script_moves (moves_of shown) old lines)) lines first.0 first.1)
@@ -89,25 +89,25 @@ module _ (shown : Shown) (sound : IsSound shown) where
 
     -- in the replies to lines: what was written begins the answers to them and to any more
     pub lines_begun : (new : Table) (lines : List (List ℕ)) (c : Option (List ℕ)) → BreaksOff new (script_moves (moves_of shown) old lines) b c
-        → (more : List (List ℕ)) → WritesPart a c (answers_of (system_of shown.subject) shown.limit (lines ++ more))
+        → (more : List (List ℕ)) → WritesPart a c (answers_by shown (lines ++ more))
     lines_begun new lines c broke more =
-        let over = breaks_over shown sound.valid sound.room sound.few sound.least old new lines b c (no_cases old none) broke in
+        let over = breaks_over shown sound.offered.texts old new lines b c (no_cases old none) broke in
         part_after a b c (ready_line system ∷ []) (replies system shown.limit [] (lines ++ more)) (ready_put system parts wires a b p w ready)
-        (broken_begins_more shown.subject sound.valid sound.room sound.few sound.least shown.limit [] new lines more b c (HasCases-empty system)
+        (broken_begins_more shown.system sound.offered shown.limit [] new lines more b c (HasCases-empty system)
         (subst (λ (t : Table). BreaksOff new (script_moves (line_moves system shown.limit) t lines) b c) none over))
 
     -- the bytes are a front and a piece: the front was answered, and a write failed in the lines after it
     stopped_in : (new : Table) (bytes fed piece : List ℕ) (lines : List (List ℕ)) (c : Option (List ℕ)) → bytes ≡ fed ++ piece → length piece ≤ READ_LIMIT
-        → FailsBehind (moves_of shown) old new (whole_lines fed) lines b c → IsStopped (answers_of (system_of shown.subject) shown.limit) bytes a c
+        → FailsBehind (moves_of shown) old new (whole_lines fed) lines b c → IsStopped (answers_by shown) bytes a c
     stopped_in new bytes fed piece lines c all few failed = grind (arith, broken_grows new (script_moves (moves_of shown) failed.table lines) failed.middle c failed.broke, ready_then failed.table (whole_lines fed) failed.middle failed.made)
 
-    pub stopped_at_once : (new : Table) (bytes : List ℕ) (c : Option (List ℕ)) → FailsAtOnce (moves_of shown) old new bytes b c → IsStopped (answers_of (system_of shown.subject) shown.limit) bytes a c
+    pub stopped_at_once : (new : Table) (bytes : List ℕ) (c : Option (List ℕ)) → FailsAtOnce (moves_of shown) old new bytes b c → IsStopped (answers_by shown) bytes a c
     stopped_at_once new bytes c at = stopped_in new bytes at.fed at.piece at.lines c at.parts at.one_read at.failed
 
-    pub stopped_at_end : (new : Table) (bytes : List ℕ) (lines : List (List ℕ)) (c : Option (List ℕ)) → FailsBehind (moves_of shown) old new (whole_lines bytes) lines b c → IsStopped (answers_of (system_of shown.subject) shown.limit) bytes a c
+    pub stopped_at_end : (new : Table) (bytes : List ℕ) (lines : List (List ℕ)) (c : Option (List ℕ)) → FailsBehind (moves_of shown) old new (whole_lines bytes) lines b c → IsStopped (answers_by shown) bytes a c
     stopped_at_end new bytes lines c failed = stopped_in new bytes bytes [] lines c (sym (append-nil bytes)) (omega arith) failed
 
   -- a write failed in the line `ready`: that begins the answers to any lines
-  pub ready_begun : (parts wires : ℕ) (a b : Option (List ℕ)) → parts ≡ length shown.subject.parts → wires ≡ length shown.subject.wires
-      → AppendsPrefix a b (spaced (codes "ready" ∷ decimal parts ∷ decimal wires ∷ [])) → (lines : List (List ℕ)) → WritesPart a b (answers_of (system_of shown.subject) shown.limit lines)
-  ready_begun parts wires a b p w (part, rest, all, grown) lines = grind (arith, part_more a b (ready_line system ∷ []) (replies system shown.limit [] lines), spells_one (ready_line system) (part ++ rest), replies-have shown.subject sound.valid sound.room sound.few sound.least shown.limit)
+  pub ready_begun : (parts wires : ℕ) (a b : Option (List ℕ)) → parts ≡ length shown.system.parts → wires ≡ length shown.system.wires
+      → AppendsPrefix a b (spaced (codes "ready" ∷ decimal parts ∷ decimal wires ∷ [])) → (lines : List (List ℕ)) → WritesPart a b (answers_by shown lines)
+  ready_begun parts wires a b p w (part, rest, all, grown) lines = grind (arith, part_more a b (ready_line system ∷ []) (replies system shown.limit [] lines), spells_one (ready_line system) (part ++ rest), replies-have shown.system sound.offered shown.limit)

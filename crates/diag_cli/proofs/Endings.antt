@@ -15,13 +15,15 @@ use Rattle.device_files.specs.declared.status.Status.TheVariants.{Done, Refused,
 use Rattle.device_files.specs.Output.{Output}
 use Rattle.device_files.specs.Describing.{netlist_line, or_line, described}
 use Rattle.device_files.specs.Choices.{Weighed, clauses_by}
-use Rattle.device_files.specs.Weighing.{within, output_within}
+use Rattle.device_files.specs.Weighing.{if_not_too_many, within, output_within}
 use Rattle.device_files.specs.Inspecting.{planned}
 use Rattle.diag_cli.specs.declared.words.TheConstants.{DEFAULT_BUDGET}
 use Rattle.diag_cli.specs.declared.words.Command.{Command}
 use Rattle.diag_cli.specs.declared.words.Command.TheVariants.{Serve, ServeFrames, Ask, Inspect, Compile}
 use Rattle.diag_cli.specs.Words.{Form, Load, Over}
+use Rattle.bench_reader.specs.declared.sequential.Sequential.{Sequential}
 use Rattle.diag_cli.specs.Besides.{in_few_bits}
+use Rattle.diag_cli.specs.Frames.{if_unrolls}
 use Rattle.diag_cli.specs.Loads.{summary_by}
 use Rattle.diag_cli.specs.Behaviours.{Behaviour, Prints, AnswersScript, graph_by, behaviour_by, behaviour_of}
 
@@ -50,6 +52,12 @@ output_within_plain : (budget : ℕ) (clauses : Device → Result Weighed Encode
     → ((device : Device) (weighed : Weighed) → is_plain true (told device weighed).status ≡ true) → is_plain true (output_within budget clauses told found).status ≡ true
 output_within_plain budget clauses told found is each = grind (arith, within_plain budget)
 
+many_plain : {A : Type 0} (found : Result A EncodeError) → Plain (if_not_too_many found)
+many_plain found = grind arith
+
+unrolls_plain : (frames : ℕ) (found : Result Sequential Output) → Plain found → Plain (if_unrolls frames found)
+unrolls_plain frames found is = grind arith
+
 few_plain : (extras : Extras) (parts : ℕ) (found : Result Weighed Output) → Plain found → Plain (in_few_bits extras parts found)
 few_plain extras parts found is = grind arith
 
@@ -59,8 +67,8 @@ described_plain path file = grind arith
 -- ---- behaviours
 
 command_plain : (choose : ClauseList → Option Forest) (path : List ℕ) (command : Command) (file : List ℕ) → IsPlainBehaviour true (behaviour_by choose path command file)
-command_plain choose path (Serve options) file = grind (arith, few_plain, within_plain, described_plain)
-command_plain choose path (ServeFrames frames options) file = grind (arith, few_plain, within_plain)
+command_plain choose path (Serve options) file = grind (arith, many_plain, few_plain, within_plain, described_plain)
+command_plain choose path (ServeFrames frames options) file = grind (arith, unrolls_plain, few_plain, within_plain)
 command_plain choose path (Ask health sessions) file = grind arith
 command_plain choose path (Inspect (Plan narrow)) file = output_within_plain BUDGET_LIMIT (clauses_by narrow choose) planned (described path file) (described_plain path file) (λ device weighed. refl)
 command_plain choose path (Inspect Check) file = grind arith

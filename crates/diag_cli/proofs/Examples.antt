@@ -17,7 +17,7 @@ use Rattle.diag_cli.specs.Behaviours.{Ended, Failed, Cut, read_error, served}
 
 -- how `serve` answers without options
 abbrev usual : ServeOptions
-usual = record { budget = 2097152; sessions = 16; narrow = false; extras = no_extras }
+usual = record { budget = 2097152; sessions = 16; narrow = false; search = false; extras = no_extras }
 
 serve_a_netlist : form_of (codes "serve" ∷ codes "c17.bench" ∷ []) ≡ Some (Over (codes "c17.bench") (Serve usual))
 serve_a_netlist = refl
@@ -42,10 +42,30 @@ all_states_and_the_graph : form_of (codes "serve" ∷ codes "c.dev" ∷ codes "-
 all_states_and_the_graph = refl
 
 all_options : form_of (codes "serve" ∷ codes "c.bench" ∷ codes "--least" ∷ codes "--frames" ∷ codes "3" ∷ codes "--narrow" ∷ codes "--levels" ∷ codes "2" ∷ codes "--sessions" ∷ codes "1" ∷ codes "--budget" ∷ codes "7" ∷ [])
-    ≡ Some (Over (codes "c.bench") (ServeFrames 3 (record { budget = 7; sessions = 1; narrow = true; extras = record { levels = Some 2; least = true } })))
+    ≡ Some (Over (codes "c.bench") (ServeFrames 3 (record { budget = 7; sessions = 1; narrow = true; search = false; extras = record { levels = Some 2; least = true } })))
 all_options = refl
 
+by_a_search : form_of (codes "serve" ∷ codes "c.dev" ∷ codes "--levels" ∷ codes "2" ∷ codes "--search" ∷ [])
+    ≡ Some (Over (codes "c.dev") (Serve (record usual { search = true; extras = record { levels = Some 2; least = false } })))
+by_a_search = refl
+
+by_a_search_over_times : form_of (codes "serve" ∷ codes "c.bench" ∷ codes "--search" ∷ codes "--frames" ∷ codes "64" ∷ [])
+    ≡ Some (Over (codes "c.bench") (ServeFrames 64 (record usual { search = true })))
+by_a_search_over_times = refl
+
 -- ---- words without one
+
+a_search_within_a_budget : form_of (codes "serve" ∷ codes "c.bench" ∷ codes "--search" ∷ codes "--budget" ∷ codes "5" ∷ []) ≡ None
+a_search_within_a_budget = refl
+
+a_search_with_a_graph : form_of (codes "serve" ∷ codes "c.bench" ∷ codes "--search" ∷ codes "--least" ∷ []) ≡ None
+a_search_with_a_graph = refl
+
+options_are_no_command : form_of (codes "serve --search" ∷ codes "c.bench" ∷ codes "--search" ∷ []) ≡ None
+options_are_no_command = refl
+
+compile_by_a_search : form_of (codes "compile" ∷ codes "c.bench" ∷ codes "--search" ∷ []) ≡ None
+compile_by_a_search = refl
 
 least_as_a_value : form_of (codes "serve" ∷ codes "c.bench" ∷ codes "--budget" ∷ codes "--least" ∷ codes "5" ∷ []) ≡ None
 least_as_a_value = refl

@@ -7,8 +7,8 @@ use Rattle.text_rules.specs.Expected.{IsExpectedFault, Fulfils}
 use Rattle.state_rules.specs.declared.extras.Extras.{Extras}
 use Rattle.state_rules.specs.Graphs.{Graph, edges}
 use Rattle.dnnf_compiler.specs.Compiled.{most_nodes}
-use Rattle.session_core.specs.declared.limits.TheConstants.{SERVED_BITS}
-use Rattle.session_core.specs.Services.{CanList, CanDraw}
+use Rattle.graph_engine.specs.declared.limits.TheConstants.{SERVED_BITS}
+use Rattle.graph_engine.specs.Served.{CanList, CanDraw}
 use Rattle.device_files.specs.declared.refusal.Refusal.{Refusal}
 use Rattle.device_files.specs.Choices.{Weighed}
 use Rattle.device_files.specs.Output.{Output}

@@ -7,7 +7,9 @@ pub mod AnsweredScripts
 pub mod ShownEnds
 pub mod ServedDevices
 pub mod Services
+pub mod AskedServices
 pub mod ServedFrames
+pub mod ServedSearches
 pub mod Unread
 pub mod Scripts
 pub mod Endings

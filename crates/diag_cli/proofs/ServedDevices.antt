@@ -14,10 +14,11 @@ use Rattle.clause_encoder.proofs.Sizes.{encoded-few_vars}
 use Rattle.branch_states.specs.declared.measuring.TheConstants.{BUDGET_LIMIT}
 use Rattle.dnnf_compiler.proofs.CompiledMeaning.{graph_of_device}
 use Rattle.session_rules.specs.Spelling.{IsGraphOf}
-use Rattle.session_rules.specs.GraphSystems.{compiled_system, system_of}
+use Rattle.session_rules.specs.GraphSystems.{compiled_system}
 use Rattle.session_rules.proofs.GraphReplies.{graph_replies}
 use Rattle.session_rules.proofs.KeptCases.{HasCases-empty}
 use Rattle.session_core.specs.Services.{Shown}
+use Rattle.graph_engine.specs.Served.{served_system}
 use Rattle.device_files.specs.declared.refusal.Refusal.{Refusal}
 use Rattle.device_files.specs.Refusals.{refusal_output}
 use Rattle.device_files.specs.Choices.{IsListOf}
@@ -25,7 +26,7 @@ use Rattle.device_files.specs.Weighing.{within}
 use Rattle.diag_cli.specs.declared.words.ServeOptions.{ServeOptions}
 use Rattle.diag_cli.specs.Behaviours.{ready_line, answers_of, served_device}
 use Rattle.diag_cli.specs.inner.Compiling.{IsGraphBy, FulfilsGraph}
-use Rattle.diag_cli.specs.inner.Serving.{IsServable, Answers}
+use Rattle.diag_cli.specs.inner.Serving.{IsServable, answers_by, Answers}
 
 -- ---- a service can take the graph of a device
 
@@ -59,16 +60,16 @@ same_answers : (device : Device) (graph : Graph) → IsGraphOf device graph → 
     → answers_of (with_extras extras (compiled_system device graph)) sessions ≡ answers_of (with_extras extras (device_system device)) sessions
 same_answers device graph is extras sessions = λ k lines. ready_line (device_system device) ∷ graph_replies device graph is extras sessions [] (HasCases-empty (device_system device)) lines k
 
--- so the service of a device answers as the device's system does
-pub device_answers : (options : ServeOptions) (device : Device) (graph : Graph) → IsServable device graph → (service : Shown)
-    → service ≡ record {
-      subject = record { parts = part_names device.parts; wires = device.wires; costs = part_costs device; graph = graph; extras = options.extras };
+-- so a service over its graph answers as the device's system does
+pub device_answers : (options : ServeOptions) (device : Device) (graph : Graph) → IsServable device graph → (shown : Shown)
+    → shown ≡ record {
+      system = served_system (record { parts = part_names device.parts; wires = device.wires; costs = part_costs device; graph = graph; extras = options.extras });
       limit = options.sessions;
       table = [];
-    } → Answers (served_device options device) options.sessions service
-device_answers options device graph is service shown = record {
-  none_open = ap (λ (s : Shown). s.table) shown;
-  same = ap (λ (s : Shown). answers_of (system_of s.subject) s.limit) shown ∙ same_answers device graph is.meaning options.extras options.sessions;
+    } → Answers (served_device options device) options.sessions shown
+device_answers options device graph is shown e = record {
+  none_open = ap (λ (s : Shown). s.table) e;
+  same = ap answers_by e ∙ same_answers device graph is.meaning options.extras options.sessions;
 }
 
 pub ruleset listed_sizes = (has_sum, encoded-few_vars)

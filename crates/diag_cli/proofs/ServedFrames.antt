@@ -23,6 +23,7 @@ use Rattle.session_rules.specs.GraphSystems.{system_of}
 use Rattle.session_rules.proofs.GraphReplies.{fitting_replies}
 use Rattle.session_rules.proofs.KeptCases.{HasCases-empty}
 use Rattle.session_core.specs.Services.{Shown}
+use Rattle.graph_engine.specs.Served.{served_system}
 use Rattle.device_files.specs.Weighing.{within}
 use Rattle.device_files.specs.Choices.{Weighed, weighed_by, ByForest, IsChosen, HasSum}
 use Rattle.device_files.specs.Output.{Output}
@@ -32,7 +33,7 @@ use Rattle.diag_cli.specs.Besides.{in_few_bits}
 use Rattle.diag_cli.specs.Behaviours.{ready_line, answers_of, served_frames}
 use Rattle.diag_cli.specs.Frames.{unrolled_within, if_unrolled}
 use Rattle.diag_cli.specs.inner.Compiling.{IsGraphBy}
-use Rattle.diag_cli.specs.inner.Serving.{Answers, frames_refusal}
+use Rattle.diag_cli.specs.inner.Serving.{answers_by, Answers, frames_refusal}
 
 -- ---- a netlist that is not unrolled or not served
 
@@ -84,12 +85,15 @@ module _ (seq : Sequential) (frames : ℕ) (made : Unrolled) (is : unrolled seq 
     same_answers options = λ k lines. ready_line (frame_system seq frames)
         ∷ fitting_replies (part_names seq.device.parts) (frame_wires seq frames) (plain_costs (length seq.device.parts)) (fits_over seq frames) graph over_names options.extras options.sessions [] (HasCases-empty (frame_system seq frames)) lines k
 
-    pub frames_answer : (options : ServeOptions) (costs : List ℕ) (service : Shown) → costs ≡ plain_costs (length seq.device.parts)
-        → service ≡ record { subject = record { parts = made.parts; wires = made.wires; costs = costs; graph = graph; extras = options.extras }; limit = options.sessions; table = [] }
-        → Answers (served_frames frames options seq) options.sessions service
-    frames_answer options costs service are shown = record {
-      none_open = ap (λ (s : Shown). s.table) shown;
-      same = ap (λ (s : Shown). answers_of (system_of s.subject) s.limit) shown
+    pub frames_answer : (options : ServeOptions) (costs : List ℕ) (shown : Shown) → costs ≡ plain_costs (length seq.device.parts)
+        → shown ≡ record {
+          system = served_system (record { parts = made.parts; wires = made.wires; costs = costs; graph = graph; extras = options.extras });
+          limit = options.sessions;
+          table = [];
+        } → Answers (served_frames frames options seq) options.sessions shown
+    frames_answer options costs shown are e = record {
+      none_open = ap (λ (s : Shown). s.table) e;
+      same = ap answers_by e
           ∙ (λ i. answers_of (system_of (record { parts = parts_are i; wires = wires_are i; costs = are i; graph = graph; extras = options.extras })) options.sessions)
           ∙ same_answers options;
     }

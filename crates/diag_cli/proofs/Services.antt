@@ -16,11 +16,12 @@ module _ {A : Type 0} (system : A → System) (sessions : ℕ) (expected : Resul
   pub refused_for : (fault : Option Output) → IsExpectedFault fault expected → IfSome fault (λ output. served_or_refused system sessions expected ≡ Prints output)
   refused_for fault is = grind arith
 
-  pub service_for : (view : Shown → A) (result : Result Shown Refusal) → Fulfils view refusal_output expected result → IfOk result (λ service. Answers (system (view service)) sessions service)
-      → IsFor (served_or_refused system sessions expected) result
-  service_for view result is of = grind (arith, refused_for)
+  pub service_for : {S : Type 0} (show : S → Shown) (view : S → A) (result : Result S Refusal) → Fulfils view refusal_output expected result
+      → IfOk result (λ service. Answers (system (view service)) sessions (show service)) → IsFor show (served_or_refused system sessions expected) result
+  service_for show view result is of = grind (arith, refused_for)
 
-pub none_open : (system : Shown → System) (sessions : ℕ) (result : Result Shown Refusal) → IfOk result (λ service. Answers (system service) sessions service) → IfOk result (λ service. service.table ≡ [])
-none_open system sessions result of = grind arith
+pub none_open : {S : Type 0} (show : S → Shown) (system : S → System) (sessions : ℕ) (result : Result S Refusal)
+    → IfOk result (λ service. Answers (system service) sessions (show service)) → IfOk result (λ service. (show service).table ≡ [])
+none_open show system sessions result of = grind arith
 
 pub ruleset made_services = (err_from_is_err_and, refused_then, refused_for, service_for, none_open)

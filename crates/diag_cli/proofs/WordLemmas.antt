@@ -17,7 +17,7 @@ use Rattle.diag_cli.specs.declared.words.Takes.TheVariants.{Nothing, Number}
 use Rattle.diag_cli.specs.declared.words.ServeOptions.{ServeOptions}
 use Rattle.diag_cli.specs.declared.words.Command.TheVariants.{Compile}
 use Rattle.diag_cli.specs.declared.words.Form.{Form as FormRead}
-use Rattle.diag_cli.specs.Words.{Form, Over, words_after, is_given, are_options, first_number, number_given, serve_options, form_serve, form_by, form_ask, form_load, form_by_words, form_of}
+use Rattle.diag_cli.specs.Words.{Form, Over, words_after, is_given, option_set, are_options, first_number, number_given, serve_options, form_serve, form_by, form_ask, form_load, form_by_words, form_of}
 use Rattle.device_files.specs.Paths.{is_device_path}
 use Rattle.diag_cli.specs.inner.Forms.{meant, AreWithinLimits, IsWithinLimits}
 
@@ -90,7 +90,7 @@ form_of_within (command ∷ []) = tt
 form_of_within (command ∷ next ∷ words) =
     (of_command (same_name command (codes "load")) (form_load next words) _ (form_load_within next words)
     (of_command (same_name command (codes "ask")) (form_ask next words) _ (form_ask_within next words)
-    (of_command (are_options command Nothing words) (form_by command next words) None (form_by_within command next words).given (record { given = tt })))).given
+    (of_command (are_options (option_set command words) Nothing words) (form_by command next words) None (form_by_within command next words).given (record { given = tt })))).given
 
 pub meant_within : (form : Option FormRead) (words : List (List ℕ)) → option_map meant form ≡ form_of words → IfSome form (λ f. IsWithinLimits (meant f))
 meant_within form words is = grind (arith, form_of_within words)

@@ -6,7 +6,7 @@ use Rattle.diag_edge.specs.ErrorLines.{above_line}
 use Rattle.dnnf_compiler.specs.Compiled.{most_nodes}
 use Rattle.level_lister.specs.Bits.{level_bits}
 use Rattle.smooth_nnf.specs.Sizes.{drawing_bits}
-use Rattle.session_core.specs.declared.limits.TheConstants.{SERVED_BITS}
+use Rattle.graph_engine.specs.declared.limits.TheConstants.{SERVED_BITS}
 use Rattle.device_files.specs.declared.status.Status.TheVariants.{Refused}
 use Rattle.device_files.specs.Choices.{Weighed}
 use Rattle.device_files.specs.Output.{Output, says, result_and_then}

@@ -1,6 +1,6 @@
 -- What a run with `--frames` does: a netlist with flip-flops over several times.
 use Rattle.std.specs.Prelude.{ℕ, List, length, Result, Ok, Err, codes}
-use Rattle.std.specs.Result.{result_and}
+use Rattle.std.specs.Result.{result_and, result_map_both}
 use Rattle.device_model.specs.declared.limits.TheConstants.{PART_LIMIT, WIRE_LIMIT}
 use Rattle.bench_reader.specs.declared.sequential.Sequential.{Sequential}
 use Rattle.bench_reader.specs.SequentialNetlists.{sequential_netlist}
@@ -34,6 +34,10 @@ not_unrolled Memory = no_memory
 abbrev pub unrolled_within : ℕ → (ClauseList → Weighed) → Result Unrolled UnrollError → Result Weighed Output
 unrolled_within budget weigh (Ok made) = within budget (Ok (weigh made.cnf))
 unrolled_within budget weigh (Err error) = Err (not_unrolled error)
+
+-- the netlist, if it can be unrolled
+abbrev pub if_unrolls : ℕ → Result Sequential Output → Result Sequential Output
+if_unrolls frames found = result_and_then (λ seq. result_and (result_map_both (λ made. made) not_unrolled (unrolled seq frames)) (Ok seq)) found
 
 -- the netlist, if it is unrolled within the budget and the extras take few bits
 abbrev pub if_unrolled : ℕ → ServeOptions → (ClauseList → Weighed) → Result Sequential Output → Result Sequential Output

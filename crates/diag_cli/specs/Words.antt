@@ -48,11 +48,12 @@ pub record Row : Type 0 where
 abbrev pub rows : List Row
 rows =
     record { word = codes "--budget"; takes = Number 7 1 BUDGET_LIMIT; commands = codes "serve" ∷ codes "compile" ∷ [] }
-    ∷ record { word = codes "--sessions"; takes = Number 4 1 SESSION_LIMIT; commands = codes "serve" ∷ codes "ask" ∷ [] }
-    ∷ record { word = codes "--frames"; takes = Number 2 1 FRAME_LIMIT; commands = codes "serve" ∷ [] }
-    ∷ record { word = codes "--levels"; takes = Number 7 0 TOP_LIMIT; commands = codes "serve" ∷ [] }
+    ∷ record { word = codes "--sessions"; takes = Number 4 1 SESSION_LIMIT; commands = codes "serve" ∷ codes "serve --search" ∷ codes "ask" ∷ [] }
+    ∷ record { word = codes "--frames"; takes = Number 2 1 FRAME_LIMIT; commands = codes "serve" ∷ codes "serve --search" ∷ [] }
+    ∷ record { word = codes "--levels"; takes = Number 7 0 TOP_LIMIT; commands = codes "serve" ∷ codes "serve --search" ∷ [] }
     ∷ record { word = codes "--narrow"; takes = Nothing; commands = codes "serve" ∷ codes "compile" ∷ codes "plan" ∷ [] }
-    ∷ record { word = codes "--least"; takes = Nothing; commands = codes "serve" ∷ [] } ∷ []
+    ∷ record { word = codes "--least"; takes = Nothing; commands = codes "serve" ∷ [] }
+    ∷ record { word = codes "--search"; takes = Nothing; commands = codes "serve --search" ∷ [] } ∷ []
 
 -- what an option of a command takes
 abbrev pub option_of : (command word : List ℕ) → Option Takes
@@ -65,6 +66,10 @@ words_after option (word ∷ words) = if same_name word option then Some words e
 
 abbrev pub is_given : List ℕ → List (List ℕ) → Bool
 is_given option words = is_some (words_after option words)
+
+-- the name of the options that are allowed: those of the command, or the few that go with a search
+abbrev pub option_set : List ℕ → List (List ℕ) → List ℕ
+option_set command words = if same_name command (codes "serve") && is_given (codes "--search") words then codes "serve --search" else command
 
 -- Whether words are options of a command: each is one, its number follows if it takes one, and none is given twice. If an option waits for
 -- its number, the first word must spell it.
@@ -91,6 +96,7 @@ serve_options words = record {
   budget = unwrap_or (number_given (codes "serve") (codes "--budget") words) DEFAULT_BUDGET;
   sessions = unwrap_or (number_given (codes "serve") (codes "--sessions") words) DEFAULT_SESSIONS;
   narrow = is_given (codes "--narrow") words;
+  search = is_given (codes "--search") words;
   extras = record { levels = number_given (codes "serve") (codes "--levels") words; least = is_given (codes "--least") words };
 }
 
@@ -123,7 +129,7 @@ abbrev pub form_by_words : List ℕ → List ℕ → List (List ℕ) → Option 
 form_by_words command next words =
     if same_name command (codes "load") then form_load next words
     else if same_name command (codes "ask") then form_ask next words
-    else if are_options command Nothing words then form_by command next words else None
+    else if are_options (option_set command words) Nothing words then form_by command next words else None
 
 -- the form of the words, if they have one
 abbrev pub form_of : List (List ℕ) → Option Form

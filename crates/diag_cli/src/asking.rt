@@ -2,8 +2,10 @@
 ghost use Rattle.std.specs.Prelude.{◌≡◌, ◌≤◌, [], Ok, length, IfOk};
 ghost use Rattle.std.specs.Option.{option_map};
 ghost use Rattle.text_rules.specs.Expected.{Fulfils};
-ghost use Rattle.nnf_ask.specs.Asking.{told};
+ghost use Rattle.nnf_ask.specs.Asking.{told, asked_subject, asked_system};
 ghost use Rattle.session_rules.specs.GraphSystems.{system_of};
+ghost use Rattle.session_core.specs.Services.{shown_by};
+ghost use Rattle.graph_engine.specs.Served.{about_of};
 ghost use Rattle.diag_cli.specs.Asking.{asked, asking_line};
 ghost use Rattle.device_files.specs.Checking.{graph_in};
 ghost use Rattle.diag_cli.specs.Behaviours.{served_or_refused};
@@ -13,6 +15,7 @@ ghost use Rattle.diag_cli.specs.inner.Serving.{Answers, IsFor};
 
 use device_files::{Refusal, Status, above, graph_in};
 use device_model::{PART_LIMIT, WIRE_LIMIT};
+use graph_engine::{GraphEngine, over};
 use nnf_ask::{AskError, ask_costs, ask_names};
 use node_store::Graph;
 use session_core::{Extras, SESSION_LIMIT, Service};
@@ -31,13 +34,18 @@ fn unnamed(error: AskError) -> Refusal
 }
 
 // Makes a service over a graph with `health` parts and at most `sessions` open sessions. All its memory is taken here.
-fn service_over(alloc: Global, graph: Graph, health: u32, sessions: u32) -> Result<Service, Refusal>
+fn service_over(
+    alloc: Global,
+    graph: Graph,
+    health: u32,
+    sessions: u32,
+) -> Result<Service<GraphEngine>, Refusal>
     requires health { health ≤ PART_LIMIT }
     requires some { 1 ≤ sessions }
     requires sessions { sessions ≤ SESSION_LIMIT }
     requires few { length graph.nodes ≤ TEXT_LIMIT }
-    ensures asked { Fulfils (λ service. service.subject) refusal_output (asked health (Ok graph)) result }
-    ensures ready { IfOk result (λ service. Answers (system_of service.subject) sessions service) }
+    ensures asked { Fulfils (λ _. asked_subject health graph) refusal_output (asked health (Ok graph)) result }
+    ensures ready { IfOk result (λ service. Answers (asked_system health graph) sessions (shown_by about_of service)) }
 {
     let (parts, wires) = match ask_names(alloc, health, graph.vars()) {
         Ok(names) => names,
@@ -49,7 +57,7 @@ fn service_over(alloc: Global, graph: Graph, health: u32, sessions: u32) -> Resu
         levels: None,
         least: false,
     };
-    match Service::over(alloc, parts, wires, costs, graph, sessions, extras) {
+    match over(alloc, parts, wires, costs, graph, sessions, extras) {
         Ok(service) => Ok(service),
         Err(_) => Err(Refusal::Memory),
     }
@@ -62,13 +70,13 @@ pub(crate) fn graph_service(
     file: &[u8],
     health: u32,
     sessions: u32,
-) -> Result<Service, Refusal>
+) -> Result<Service<GraphEngine>, Refusal>
     requires short { length file.now ≤ TEXT_LIMIT }
     requires health { health ≤ PART_LIMIT }
     requires some { 1 ≤ sessions }
     requires sessions { sessions ≤ SESSION_LIMIT }
     ensures none_open { IfOk result (λ service. service.table ≡ []) }
-    ensures behaviour { IsFor (served_or_refused system_of sessions (asked health (graph_in file.now))) result }
+    ensures behaviour { IsFor (shown_by about_of) (served_or_refused system_of sessions (asked health (graph_in file.now))) result }
 {
     let graph = graph_in(alloc, file)?;
     service_over(alloc, graph, health, sessions)

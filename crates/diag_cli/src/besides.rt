@@ -19,10 +19,11 @@ use clause_encoder::Cnf;
 use device_files::{Refusal, Status, above, clauses_along, sum_within};
 use device_model::{Device, PART_LIMIT};
 use dnnf_compiler::most_nodes;
+use graph_engine::SERVED_BITS;
 use level_lister::{TOP_LIMIT, level_bits};
 use node_store::Graph;
 use part_sets::part_words;
-use session_core::{Extras, SERVED_BITS};
+use session_core::Extras;
 use std::alloc::Global;
 use tree_finder::Narrowed;
 

@@ -7,6 +7,8 @@ ghost use Rattle.bench_reader.specs.SequentialNetlists.{sequential_netlist, HasS
 ghost use Rattle.device_files.specs.Choices.{weighed_by, ByForest};
 ghost use Rattle.device_files.specs.Describing.{netlist_line, or_line};
 ghost use Rattle.device_files.specs.Refusals.{FulfilsOrRefuses, refusal_output};
+ghost use Rattle.session_core.specs.Services.{shown_by};
+ghost use Rattle.graph_engine.specs.Served.{about_of};
 ghost use Rattle.diag_cli.specs.Behaviours.{served_frames, served_or_refused};
 ghost use Rattle.diag_cli.specs.Frames.{sequential_in, if_unrolled};
 ghost use Rattle.diag_cli.specs.inner.Forms.{AreWithinLimits};
@@ -19,12 +21,13 @@ use bench_reader::{Sequential, read_sequential};
 use device_files::{Refusal, forest_of, netlist_refusal};
 use device_model::PART_LIMIT;
 use frame_unroller::{FRAME_LIMIT, Unrolled, unroll};
+use graph_engine::{GraphEngine, over};
 use session_core::Service;
 use std::alloc::{AllocError, Global};
 use text_rules::TEXT_LIMIT;
 
-// Reads the netlist of a text, which may have flip-flops.
-fn sequential(alloc: Global, text: &[u8]) -> Result<Sequential, Refusal>
+/// Reads the netlist of a text, which may have flip-flops.
+pub(crate) fn sequential(alloc: Global, text: &[u8]) -> Result<Sequential, Refusal>
     requires { length text.now ≤ TEXT_LIMIT }
     ensures read { FulfilsOrRefuses (or_line netlist_line (sequential_netlist text.now)) result }
     ensures short { IfOk result (λ seq. HasShortNames seq.device) }
@@ -35,8 +38,8 @@ fn sequential(alloc: Global, text: &[u8]) -> Result<Sequential, Refusal>
     }
 }
 
-// Returns the costs of `parts` parts, each 1.
-fn plain_costs(alloc: Global, parts: usize) -> Result<Vec<u32>, AllocError>
+/// Returns the costs of `parts` parts, each 1.
+pub(crate) fn plain_costs(alloc: Global, parts: usize) -> Result<Vec<u32>, AllocError>
     requires { parts ≤ PART_LIMIT }
     ensures costs { IfOk result (λ costs. costs.items ≡ plain_costs parts) }
     ensures dear { IfOk result (λ costs. All (λ c. 0 < c) costs.items) }
@@ -51,12 +54,12 @@ fn service_within(
     seq: &Sequential,
     frames: u32,
     options: ServeOptions,
-) -> Result<Service, Refusal>
+) -> Result<Service<GraphEngine>, Refusal>
     requires some_frames { 1 ≤ frames }
     requires few_frames { frames ≤ FRAME_LIMIT }
     requires short { HasShortNames seq.now.device }
     requires options { AreWithinLimits options }
-    ensures service { IfOk result (Answers (served_frames frames options seq.now) options.sessions) }
+    ensures service { IfOk result (λ service. Answers (served_frames frames options seq.now) options.sessions (shown_by about_of service)) }
     ensures within { ByForest (λ choose.
         Fulfils (λ _. seq.now) refusal_output (if_unrolled frames options (weighed_by options.narrow choose) (Ok seq.now)) result) }
 {
@@ -69,7 +72,7 @@ fn service_within(
     let forest = forest_of(alloc, &cnf, options.narrow)?;
     let graph = compile_in_few_bits(alloc, &cnf, &forest, count as u32, options)?;
     let costs = plain_costs(alloc, count)?;
-    match Service::over(
+    match over(
         alloc,
         parts.into_vec(),
         wires.into_vec(),
@@ -90,13 +93,13 @@ pub(crate) fn frame_service(
     file: &[u8],
     frames: u32,
     options: ServeOptions,
-) -> Result<Service, Refusal>
+) -> Result<Service<GraphEngine>, Refusal>
     requires some_frames { 1 ≤ frames }
     requires few_frames { frames ≤ FRAME_LIMIT }
     requires options { AreWithinLimits options }
     requires short { length file.now ≤ TEXT_LIMIT }
     ensures none_open { IfOk result (λ service. service.table ≡ []) }
-    ensures behaviour { ByForest (λ choose. IsFor (served_or_refused (served_frames frames options) options.sessions
+    ensures behaviour { ByForest (λ choose. IsFor (shown_by about_of) (served_or_refused (served_frames frames options) options.sessions
         (if_unrolled frames options (weighed_by options.narrow choose) (sequential_in file.now))) result) }
 {
     let seq = sequential(alloc, file)?;

@@ -15,6 +15,7 @@ mod program;
 mod refusing;
 mod run;
 mod saying;
+mod searching;
 mod serving;
 mod summing;
 mod words;

@@ -2,14 +2,15 @@
 ghost use Rattle.std.specs.Prelude.{◌≡◌, ◌≢◌, ◌+◌, ◌-◌, ◌^◌, ◌<◌, [], ◌∷◌, codes, decimal, IfOk};
 ghost use Rattle.text_rules.specs.Tokens.{spaced};
 ghost use Rattle.diag_edge.specs.Edge.{HasCause, Puts, RoseExactly};
-ghost use Rattle.session_rules.specs.GraphSystems.{system_of};
-ghost use Rattle.diag_cli.specs.Behaviours.{Behaviour, answers_of};
+ghost use Rattle.session_core.specs.Services.{shown_by};
+ghost use Rattle.diag_cli.specs.Behaviours.{Behaviour};
 ghost use Rattle.diag_cli.specs.Fulfilled.{IsServed};
-ghost use Rattle.diag_cli.specs.inner.Serving.{IsFor, FulfilsBehaviourUnlessMemory};
+ghost use Rattle.diag_cli.specs.inner.Serving.{answers_by, IsFor, FulfilsBehaviourUnlessMemory};
 
 use crate::saying::{say_read_fault, say_too_long};
 use device_files::{Refusal, Status, tell};
 use diag_edge::{Sink, Source, WriteFailed, put_line};
+use engines::Engine;
 use itoa::Buffer;
 use session_core::{ServeEnd, Service};
 
@@ -33,13 +34,17 @@ fn put_ready<O: Sink>(out: &mut O, parts: u64, wires: u64) -> Result<(), WriteFa
 }
 
 // Answers the script with a service without open sessions.
-fn answer<I: Source, O: Sink>(service: &mut Service, input: &mut I, out: &mut O) -> Status
+fn answer<E: Engine, I: Source, O: Sink>(
+    service: &mut Service<E>,
+    input: &mut I,
+    out: &mut O,
+) -> Status
     requires none_open { service.old.table ≡ [] }
     requires taken { I.taken input.old < 2 ^ 62 }
     requires reads { I.faults input.old < 2 ^ 64 - 1 }
     requires writes { O.faults out.old < 2 ^ 64 - 1 }
     ensures write_fault { RoseExactly (O.faults out.old) (O.faults out.new) (result ≡ Status.WriteFailed) }
-    ensures served { IsServed (answers_of (system_of service.old.subject) service.old.limit)
+    ensures served { IsServed (answers_by (shown_by E.about service.old))
         (I.shown input.old) (I.shown input.new) (O.shown out.old) (O.shown out.new) result }
 {
     match put_ready(out, service.parts() as u64, service.wires() as u64) {
@@ -55,8 +60,8 @@ fn answer<I: Source, O: Sink>(service: &mut Service, input: &mut I, out: &mut O)
 }
 
 /// Answers the script with the service that was made, or prints its refusal. Returns the status.
-pub(crate) fn answer_by<I: Source, O: Sink>(
-    made: Result<Service, Refusal>,
+pub(crate) fn answer_by<E: Engine, I: Source, O: Sink>(
+    made: Result<Service<E>, Refusal>,
     input: &mut I,
     out: &mut O,
 ) -> Status
@@ -65,7 +70,7 @@ pub(crate) fn answer_by<I: Source, O: Sink>(
     requires reads { I.faults input.old < 2 ^ 64 - 1 }
     requires writes { O.faults out.old < 2 ^ 64 - 1 }
     ensures write_fault { RoseExactly (O.faults out.old) (O.faults out.new) (result ≡ Status.WriteFailed) }
-    ensures follows { (behaviour : Behaviour) → IsFor behaviour made
+    ensures follows { (behaviour : Behaviour) → IsFor (shown_by E.about) behaviour made
         → FulfilsBehaviourUnlessMemory behaviour (I.shown input.old) (I.shown input.new) (O.shown out.old) (O.shown out.new) result }
 {
     match made {

@@ -1,7 +1,7 @@
 ghost use Rattle.std.specs.Prelude.{◌≡◌, None, Some, map, string_bytes, IfSome};
 ghost use Rattle.std.specs.Option.{option_map};
 ghost use Rattle.text_rules.specs.Numbers.{plain_number_in};
-ghost use Rattle.diag_cli.specs.Words.{form_of, form_by_words, form_load, form_ask, form_by, form_serve, serve_options, option_of, words_after, is_given, are_options, number_given};
+ghost use Rattle.diag_cli.specs.Words.{form_of, form_by_words, form_load, form_ask, form_by, form_serve, serve_options, option_set, option_of, words_after, is_given, are_options, number_given};
 ghost use Rattle.diag_cli.specs.declared.words.Takes.TheVariants.{Nothing, Number};
 ghost use Rattle.diag_cli.specs.inner.Forms.{meant, IsWithinLimits};
 
@@ -29,6 +29,8 @@ pub struct ServeOptions {
     pub sessions: u32,
     /// Clauses are compiled along a forest of their variables, if one is found.
     pub narrow: bool,
+    /// A search over the clauses answers, and no graph is compiled. The budget and the forest are then of no use.
+    pub search: bool,
     /// What sessions offer besides: states up to a cost of at most `TOP_LIMIT`, and the graph of the diagnoses.
     pub extras: Extras,
 }
@@ -87,14 +89,20 @@ fn option_of(command: &str, word: &str) -> Option<Takes>
     ensures { result ≡ option_of command.now word.now }
 {
     let is_serve = command == "serve";
+    let is_search = command == "serve --search";
     let is_compile = command == "compile";
     match word {
         "--budget" => (is_serve || is_compile).then_some(number(7, 1, BUDGET_LIMIT)),
-        "--sessions" => (is_serve || command == "ask").then_some(number(4, 1, SESSION_LIMIT)),
-        "--frames" => is_serve.then_some(number(2, 1, FRAME_LIMIT)),
-        "--levels" => is_serve.then_some(number(7, 0, TOP_LIMIT)),
+        "--sessions" => (is_serve || is_search || command == "ask").then_some(number(
+            4,
+            1,
+            SESSION_LIMIT,
+        )),
+        "--frames" => (is_serve || is_search).then_some(number(2, 1, FRAME_LIMIT)),
+        "--levels" => (is_serve || is_search).then_some(number(7, 0, TOP_LIMIT)),
         "--narrow" => (is_serve || is_compile || command == "plan").then_some(Takes::Nothing),
         "--least" => is_serve.then_some(Takes::Nothing),
+        "--search" => is_search.then_some(Takes::Nothing),
         _ => None,
     }
 }
@@ -182,6 +190,7 @@ fn serve_options(words: &[String]) -> ServeOptions
         budget: number_given("serve", "--budget", words).unwrap_or(DEFAULT_BUDGET),
         sessions: number_given("serve", "--sessions", words).unwrap_or(DEFAULT_SESSIONS),
         narrow: is_given("--narrow", words),
+        search: is_given("--search", words),
         extras: Extras {
             levels: number_given("serve", "--levels", words),
             least: is_given("--least", words),
@@ -250,6 +259,17 @@ fn form_load<'a>(places: &str, words: &[String]) -> Option<Form<'a>>
     Some(Form::Load { places })
 }
 
+// Returns the name of the options that are allowed: those of the command, or the few that go with a search.
+fn option_set<'a>(command: &'a str, words: &[String]) -> &'a str
+    ensures { result.now ≡ option_set command.now (map string_bytes words.now) }
+{
+    if command == "serve" && is_given("--search", words) {
+        "serve --search"
+    } else {
+        command
+    }
+}
+
 // Returns the form of the words after the first two.
 fn form_by_words<'a>(command: &str, next: &'a str, words: &[String]) -> Option<Form<'a>>
     ensures { option_map meant result ≡ form_by_words command.now next.now (map string_bytes words.now) }
@@ -257,7 +277,7 @@ fn form_by_words<'a>(command: &str, next: &'a str, words: &[String]) -> Option<F
     match command {
         "load" => form_load(next, words),
         "ask" => form_ask(next, words),
-        _ if are_options(command, words) => form_by(command, next, words),
+        _ if are_options(option_set(command, words), words) => form_by(command, next, words),
         _ => None,
     }
 }

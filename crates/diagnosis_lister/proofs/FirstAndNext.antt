@@ -6,13 +6,12 @@ use Rattle.state_rules.specs.Graphs.{Graph}
 use Rattle.state_rules.proofs.Members.{In, In-filter, In-filtered, empty-none}
 use Rattle.state_rules.proofs.Order.{Sorted, Sorted-states, Sorted-filter, first-sorted}
 use Rattle.conditioner.specs.Models.{has_model, fits_evidence, models, least_under, diagnoses_under}
-use Rattle.minimiser.specs.LeastStates.{ModelWithin}
+use Rattle.minimiser.specs.LeastStates.{ModelWithin, LeastState}
 use Rattle.diagnosis_lister.specs.declared.listing.Step.TheVariants.{Found, End}
 use Rattle.diagnosis_lister.specs.Listing.{step_of}
-use Rattle.diagnosis_lister.specs.inner.Fixing.{IsFirst, NoneAfter}
-use Rattle.minimiser.specs.LeastStates.{LeastState}
-use Rattle.minimiser.proofs.Models.{least-none, least-passes, least-some, least-refined, passes-least, diagnosis-in, diagnosis-out, Refines, LeastIs}
-use Rattle.diagnosis_lister.specs.inner.Fixing.{Has}
+use Rattle.diagnosis_lister.specs.inner.Fixing.{IsFirst, NoneAfter, Has}
+use Rattle.state_rules.proofs.Diagnoses.{least-none}
+use Rattle.minimiser.proofs.Models.{least-passes, least-some, least-refined, passes-least, diagnosis-in, diagnosis-out, Refines, LeastIs}
 
 -- ---- lists of states
 

@@ -9,8 +9,8 @@ use Rattle.state_rules.specs.Graphs.{Graph}
 use Rattle.conditioner.specs.Models.{diagnoses_under}
 use Rattle.minimiser.specs.LeastStates.{ModelWithin, Suspect}
 use Rattle.minimiser.proofs.Models.{Agree, Agree-bit, ModelWithin-agrees, LeastIs, least-some, passes-least, diagnosis-in, diagnosis-out}
-use Rattle.probe_report.specs.declared.verdicts.Blame.{Blame}
-use Rattle.probe_report.specs.declared.verdicts.Blame.TheVariants.{Sometimes, Never}
+use Rattle.state_rules.specs.declared.blame.Blame.{Blame}
+use Rattle.state_rules.specs.declared.blame.Blame.TheVariants.{Sometimes, Never}
 use Rattle.probe_report.specs.Verdicts.{blame_of}
 use Rattle.probe_report.proofs.Blames.{all-ok, all-faulty, some-differ}
 use Rattle.fault_graph.specs.inner.Presumed.{presumed, IsPresumed}

@@ -5,7 +5,8 @@ use Rattle.state_rules.proofs.NodeValues.{value_of-last}
 use Rattle.state_rules.proofs.NodesFit.{AreNodes-push}
 use Rattle.conditioner.specs.Models.{total_cost}
 use Rattle.minimiser.specs.Costs.{part_cost, known_at, least_at}
-use Rattle.minimiser.specs.Stored.{cost_in, AreLeastCosts}
+use Rattle.state_rules.specs.Numbers.{cost_in}
+use Rattle.minimiser.specs.Stored.{AreLeastCosts}
 use Rattle.minimiser.proofs.Costs.{IsCost}
 use Rattle.minimiser.proofs.LeastOfModels.{part_cost-none}
 use Rattle.minimiser.proofs.Models.{LeastIs}

@@ -11,7 +11,7 @@ use crate::minimised_graph::MinimisedGraph;
 use diagnosis_lister::{Step, first_in, next_in};
 use minimiser::{Steps, TOTAL_LIMIT};
 use node_store::Graph;
-use probe_report::Blame;
+use state_rules::Blame;
 use std::sync::ledger::Ledger;
 
 impl MinimisedGraph {

@@ -10,7 +10,8 @@ use conditioner::{is_faulty, is_open, known_of};
 use diagnosis_lister::first_in;
 use minimiser::{Steps, TOTAL_LIMIT, find_suspects, least_in};
 use node_store::GraphView;
-use probe_report::{Blame, blame_faulty};
+use probe_report::blame_faulty;
+use state_rules::Blame;
 use std::sync::ledger::Ledger;
 
 /// Writes what [`blame`](probe_report::blame) returns for each part, in order.

@@ -30,7 +30,7 @@ module _ (costs : List ℕ) where
     Rising-append xs ys s.1 t (λ a y p q. h a y (inr p) q),
   )
 
-  Rising-filter : (p : List Bool → Bool) (xs : List (List Bool)) → Rising xs → Rising (filter p xs)
+  pub Rising-filter : (p : List Bool → Bool) (xs : List (List Bool)) → Rising xs → Rising (filter p xs)
   Rising-filter p [] s = tt
   Rising-filter p (x ∷ xs) s = grind (arith, nat_tests, p, In-filter, Rising-filter p xs s.1)
 
@@ -54,14 +54,14 @@ module _ (costs : List ℕ) where
   some_levels-has hs from zero h m low high = absurd (omega arith)
   some_levels-has hs from (suc n) h m low high = grind (arith, nat_tests, In-append_left, In-filtered, In-append_right h (of_cost costs hs from) (some_levels hs (from + 1) n), some_levels-has hs (from + 1) n h)
 
-  Rising-levels : (hs : List (List Bool)) (from n : ℕ) → Sorted hs → Rising (some_levels hs from n)
+  pub Rising-levels : (hs : List (List Bool)) (from n : ℕ) → Sorted hs → Rising (some_levels hs from n)
   Rising-levels hs from zero s = tt
   Rising-levels hs from (suc n) s = grind (arith, Rising-append (of_cost costs hs from) (some_levels hs (from + 1) n), Rising-same from (of_cost costs hs from), of_cost-in hs from, Sorted-filter, some_levels-in hs (from + 1) n, Rising-levels hs (from + 1) n s)
 
   not_both : (h k : List Bool) → is_level_before costs h k ≡ true → is_level_before costs k h ≡ true → ⊥
   not_both h k e f = grind (arith, nat_tests, before-cases, not_both_before)
 
-  first-rising : (xs : List (List Bool)) (h d : List Bool) → Rising xs → In h xs → ((k : List Bool) → In k xs → (k ≡ h) ⊎ (is_level_before costs h k ≡ true)) → get_or xs 0 d ≡ h
+  pub first-rising : (xs : List (List Bool)) (h d : List Bool) → Rising xs → In h xs → ((k : List Bool) → In k xs → (k ≡ h) ⊎ (is_level_before costs h k ≡ true)) → get_or xs 0 d ≡ h
   first-rising [] h d s m low = absurd m
   first-rising (x ∷ xs) h d s given low = grind (arith, nat_tests, not_both)
 

@@ -18,4 +18,5 @@ mod states;
 
 pub use bits::level_bits;
 pub use levels::{LevelStep, Levels, TOP_LIMIT};
+pub use states::state_cost;
 pub use std::alloc::AllocError as Memory;

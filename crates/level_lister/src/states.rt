@@ -8,8 +8,9 @@ ghost use Rattle.diagnosis_lister.specs.inner.Fixing.{Agrees, Follows, fixed_bit
 use conditioner::{is_false, is_faulty, is_open, word_of_known};
 use minimiser::TOTAL_LIMIT;
 
+/// Returns the sum of the costs of the faulty parts of a state: a word for each part, 0 if it is ok, 1 if it is faulty.
 #[tactic(auto, using(crate::proofs::StateCosts::cost_steps))]
-pub(crate) fn state_cost(state: &[u32], costs: &[u32]) -> u32
+pub fn state_cost(state: &[u32], costs: &[u32]) -> u32
     requires long { length state.now ≡ length costs.now }
     requires total { total_cost costs.now < TOTAL_LIMIT }
     ensures { result ≡ cost costs.now (bits_of state.now) }

@@ -88,10 +88,6 @@ module _ (graph : Graph) (costs : List ℕ) (within : length costs ≤ graph.var
 
 -- ---- the diagnoses
 
-pub least-none : (costs : List ℕ) (hs : List (List Bool)) → least costs hs ≡ None → hs ≡ []
-least-none costs [] e = refl
-least-none costs (h ∷ hs) e = grind arith
-
 module _ (graph : Graph) (evidence costs : List ℕ) (most : ℕ) (e : LeastIs graph costs evidence most) where
   abbrev pub ds : List (List Bool)
   ds = diagnoses_under graph evidence costs

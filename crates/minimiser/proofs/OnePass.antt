@@ -16,7 +16,8 @@ use Rattle.node_store.proofs.NodeCopies.{take-more}
 use Rattle.conditioner.specs.Models.{least_under, total_cost}
 use Rattle.minimiser.specs.Costs.{part_cost, known_at, cost_at, node_cost}
 use Rattle.minimiser.specs.inner.Held.{held_cost}
-use Rattle.minimiser.specs.Stored.{cost_in, costs_to, AreLeastCosts}
+use Rattle.state_rules.specs.Numbers.{cost_in}
+use Rattle.minimiser.specs.Stored.{costs_to, AreLeastCosts}
 use Rattle.node_costs.proofs.Totals.{total-le}
 use Rattle.node_costs.proofs.Sets.{least-has}
 use Rattle.minimiser.proofs.Costs.{fault}

@@ -3,7 +3,7 @@ use Rattle.std.proofs.Common.{◌≡◌, ℕ, zero, suc, ◌+◌, ◌<◌, ◌�
 use Rattle.std.specs.Prelude.{IfSome}
 use Rattle.std.proofs.lemmas.List.{drop_more}
 use Rattle.minimiser.specs.Costs.{add_costs, min_costs, cost_at, sum_costs, cheapest}
-use Rattle.minimiser.specs.Stored.{cost_in}
+use Rattle.state_rules.specs.Numbers.{cost_in}
 
 pub cost_at-map : (values : List ℕ) (k : ℕ) → k < length values → cost_at (map cost_in values) k ≡ cost_in (get_or values k 0)
 cost_at-map [] k h = absurd (omega arith)

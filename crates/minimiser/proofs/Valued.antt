@@ -5,7 +5,8 @@ use Rattle.state_rules.specs.Assignments.{Assignment}
 use Rattle.state_rules.specs.Values.{values}
 use Rattle.state_rules.specs.Graphs.{Graph, is_true, mentions, IsGraph}
 use Rattle.minimiser.specs.Costs.{part_cost, known_at, cost_at, node_cost, least_at}
-use Rattle.minimiser.specs.Stored.{cost_in, costs_to, AreLeastCosts}
+use Rattle.state_rules.specs.Numbers.{cost_in}
+use Rattle.minimiser.specs.Stored.{costs_to, AreLeastCosts}
 use Rattle.minimiser.proofs.Costs.{Agrees, faults_in}
 use Rattle.minimiser.proofs.Sums.{cost_at-map}
 use Rattle.minimiser.proofs.OnePass.{length-least_costs}

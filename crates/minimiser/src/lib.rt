@@ -8,6 +8,6 @@ mod steps;
 mod suspects;
 
 pub use outside::put_outside_costs;
-pub use pass::{NONE, TOTAL_LIMIT, least, least_in, part_cost, put_least_costs};
+pub use pass::{TOTAL_LIMIT, least, least_in, part_cost, put_least_costs};
 pub use steps::Steps;
 pub use suspects::{find_suspects, first_suspect};

@@ -2,9 +2,8 @@ ghost use Rattle.std.specs.Prelude.{◌≡◌, ℕ, ◌+◌, ◌<◌, length, Al
 ghost use Rattle.minimiser.specs.inner.Outside.{others_cost, lowered, AreOutsideCosts};
 ghost use Rattle.minimiser.specs.inner.Swept.{is_child};
 
-use crate::pass::NONE;
 use node_store::Graph;
-use state_rules::NodeKind;
+use state_rules::{NO_COST, NodeKind};
 
 /// Writes for each node the least cost of the rest of a derivation of the root outside it, from the values that [`least`](crate::least)
 /// left: one sweep over the nodes, from the root down. The number of a node that has no value means nothing.
@@ -15,7 +14,7 @@ pub fn put_outside_costs(graph: &Graph, values: &[u32], outside: &mut [u32])
     ensures { AreOutsideCosts graph.now.nodes values.now outside.new 0 }
 {
     let count = graph.len();
-    outside.fill(NONE);
+    outside.fill(NO_COST);
     outside[count as usize - 1] = 0;
     for at in (0..count).rev() {
         let rest = outside[at as usize];

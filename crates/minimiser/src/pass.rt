@@ -3,19 +3,17 @@ ghost use Rattle.state_rules.specs.Graphs.{node_fits};
 ghost use Rattle.conditioner.specs.Models.{least_under, total_cost};
 ghost use Rattle.minimiser.specs.Costs.{part_cost, known_at, node_cost, literal_cost, cost_at, cost_by, sum_costs, cheapest};
 ghost use Rattle.minimiser.specs.inner.Held.{held_cost};
-ghost use Rattle.minimiser.specs.Stored.{cost_in, AreLeastCosts};
+ghost use Rattle.state_rules.specs.Numbers.{cost_in};
+ghost use Rattle.minimiser.specs.Stored.{AreLeastCosts};
 
 use crate::steps::Steps;
 use conditioner::{Leaf, is_false, leaf};
 use node_store::{Graph, GraphView, NodeRef};
-use state_rules::NodeKind;
+use state_rules::{NO_COST, NodeKind};
 use std::sync::ledger::Ledger;
 
 /// All parts together cost less than this, so that a cost leaves the highest bit of its number free.
 pub const TOTAL_LIMIT: u32 = 2_147_483_647;
-
-/// The number that means no cost.
-pub const NONE: u32 = u32::MAX;
 
 /// Returns the least cost of a health state that is a model with some bits of the other variables: it agrees with the evidence, and the
 /// graph is true under them. `None` if there is none.
@@ -64,7 +62,7 @@ pub fn least_in<L: Ledger>(
 {
     put_least_costs(graph, evidence, costs, values, steps);
     let root = values[graph.len() as usize - 1];
-    if root == NONE {
+    if root == NO_COST {
         None
     } else {
         Some(root + held_cost(evidence, costs))
@@ -135,7 +133,7 @@ fn pair_value(what: NodeKind, one: u32, other: u32) -> u32
 {
     let sum = u64::from(one) + u64::from(other);
     let value = either(what, sum, u64::from(one.min(other)));
-    value.min(u64::from(NONE)) as u32
+    value.min(u64::from(NO_COST)) as u32
 }
 
 // Returns one of two numbers, by the kind of a node. Both are computed before, so that no branch depends on it.
@@ -167,7 +165,7 @@ fn literal_value(leaf: Leaf, positive: bool, cost: u32) -> u32
 {
     match leaf {
         Leaf::True => 0,
-        Leaf::False => NONE,
+        Leaf::False => NO_COST,
         Leaf::Open => { if positive { 0 } else { cost } }
     }
 }
@@ -190,7 +188,7 @@ fn or_value(values: &[u32], kids: &[u32]) -> u32
     requires { All (λ k. k < length values.now) kids.now }
     ensures { cost_in result ≡ cheapest (map (cost_at (map cost_in values.now)) kids.now) }
 {
-    let mut best = NONE;
+    let mut best = NO_COST;
     for k in kids {
         best = best.min(values[*k as usize]);
     }

@@ -4,10 +4,10 @@ ghost use Rattle.minimiser.specs.Stored.{AreLeastCosts};
 ghost use Rattle.minimiser.specs.LeastStates.{Suspect, OkBelow};
 ghost use Rattle.minimiser.specs.inner.Swept.{IsValue, has_mark, spread_value, IsSwept, suspect_of, suspect_at};
 
-use crate::pass::{NONE, TOTAL_LIMIT};
+use crate::pass::TOTAL_LIMIT;
 use conditioner::is_open;
 use node_store::GraphView;
-use state_rules::NodeKind;
+use state_rules::{NO_COST, NodeKind};
 
 /// Marks a node in its value. Costs are below it.
 const MARK: u32 = TOTAL_LIMIT + 1;
@@ -101,7 +101,7 @@ fn sweep(graph: &GraphView<'_>, values: &mut [u32])
 fn has_mark(value: u32) -> bool
     ensures { result ≡ has_mark value }
 {
-    value >= MARK && value != NONE
+    value >= MARK && value != NO_COST
 }
 
 fn spread(values: &mut [u32], kids: &[u32], cost: u32)

@@ -11,7 +11,8 @@ use Rattle.conditioner.specs.Evidence.{known_of, word_of, leaf_of}
 use Rattle.conditioner.specs.Models.{has_model, fits_evidence, least_under, least_with, total_cost}
 use Rattle.node_costs.proofs.States.{least-out, least-in}
 use Rattle.minimiser.specs.Costs.{part_cost}
-use Rattle.minimiser.specs.Stored.{cost_in, AreLeastCosts}
+use Rattle.state_rules.specs.Numbers.{cost_in}
+use Rattle.minimiser.specs.Stored.{AreLeastCosts}
 use Rattle.minimiser.specs.inner.Held.{held_one, held_cost}
 use Rattle.minimiser.proofs.Sums.{cost_in-some}
 use Rattle.minimiser.proofs.OnePass.{is_least, value_small, length-least_costs}

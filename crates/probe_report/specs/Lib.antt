@@ -1,3 +1,2 @@
 pub mod Verdicts
-pub mod Probed
 pub mod inner

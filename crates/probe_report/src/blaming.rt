@@ -3,9 +3,9 @@ ghost use Rattle.conditioner.specs.Models.{least_under, least_with, total_cost};
 ghost use Rattle.probe_report.specs.Verdicts.{blame_of};
 
 use crate::asking::least_where;
-use crate::verdicts::Blame;
 use minimiser::{Steps, TOTAL_LIMIT, least};
 use node_store::{Graph, GraphView};
+use state_rules::Blame;
 use std::sync::ledger::Ledger;
 
 /// Whether a part is faulty in all diagnoses, in some, or in none.

@@ -6,9 +6,8 @@ mod blaming;
 mod leaving;
 mod marking;
 mod probing;
-mod verdicts;
 
 pub use asking::probe;
 pub use blaming::{blame, blame_faulty};
-pub use probing::{cost_of, probe_all};
-pub use verdicts::Blame;
+pub use probing::probe_all;
+pub use state_rules::{Blame, cost_of};

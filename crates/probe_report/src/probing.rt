@@ -1,7 +1,6 @@
 ghost use Rattle.std.specs.Prelude.{◌≡◌, ℕ, Bool, ◌+◌, ◌*◌, ◌/◌, ◌%◌, ◌<◌, ◌≤◌, ◌==◌, length, All, false, true, min, slice_index, if◌then◌else◌};
 ghost use Rattle.conditioner.specs.Models.{least_under, least_with, total_cost};
-ghost use Rattle.minimiser.specs.Stored.{cost_in};
-ghost use Rattle.probe_report.specs.Probed.{probed};
+ghost use Rattle.state_rules.specs.Numbers.{cost_in, probed};
 ghost use Rattle.probe_report.specs.inner.Outside.{IsLowered, With};
 ghost use Rattle.probe_report.specs.inner.Settled.{settled};
 
@@ -42,24 +41,6 @@ pub fn probe_all<L: Ledger>(
     probe_wires(
         graph, evidence, costs, values, outside, marks, zeros, ones, steps,
     )
-}
-
-/// Returns the least cost if a wire has a bit, from the numbers that [`probe_all`] left; none if no state is left.
-pub fn cost_of(numbers: &[u32], wire: usize, bit: bool) -> Option<u32>
-    requires even { length numbers.now % 2 ≡ 0 }
-    requires wire { wire < length numbers.now / 2 }
-    ensures { result ≡ probed numbers.now wire bit }
-{
-    let number = if bit {
-        numbers[numbers.len() / 2 + wire]
-    } else {
-        numbers[wire]
-    };
-    if number == u32::MAX {
-        None
-    } else {
-        Some(number)
-    }
 }
 
 impl NodeCosts<'_> {

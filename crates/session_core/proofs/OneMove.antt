@@ -15,7 +15,7 @@ use Rattle.session_rules.specs.Sessions.{Table, Entry, Move, changed, declined, 
 use Rattle.session_rules.specs.Spelling.{Replies}
 use Rattle.session_rules.proofs.Broken.{carries_one}
 use Rattle.session_rules.proofs.Spellings.{replies_one}
-use Rattle.session_core.specs.Services.{Shown, outcome_of, served_system}
+use Rattle.session_core.specs.Services.{Shown, outcome_of}
 use Rattle.session_core.specs.inner.Obeying.{Obeys}
 
 -- a service with another table
@@ -23,7 +23,7 @@ abbrev pub with_table : Shown → Table → Shown
 with_table shown table = record shown { table = table }
 
 -- the entry of an open session decides the answer to its request
-pub asked_open : (old : Shown) (session : Name) (request : Request) (entry : Entry) → entry_of session old.table ≡ Some entry → outcome_of old session request ≡ when_open (served_system old.subject) session entry request
+pub asked_open : (old : Shown) (session : Name) (request : Request) (entry : Entry) → entry_of session old.table ≡ Some entry → outcome_of old session request ≡ when_open old.system session entry request
 asked_open old session request entry found = grind arith
 
 -- a request of one move was carried out

@@ -7,12 +7,12 @@ use Rattle.state_rules.specs.Bits.{bit_in}
 use Rattle.state_rules.specs.Cases.{Case}
 use Rattle.state_rules.specs.Ranking.{least, diagnoses}
 use Rattle.state_rules.specs.Systems.{System}
-use Rattle.probe_report.specs.declared.verdicts.Blame.{Blame}
-use Rattle.probe_report.specs.Verdicts.{verdict}
+use Rattle.state_rules.specs.declared.blame.Blame.{Blame}
+use Rattle.state_rules.specs.Verdicts.{verdict}
+use Rattle.state_rules.proofs.Diagnoses.{no_diagnosis, has_diagnosis}
 use Rattle.session_rules.specs.Replies.{inconsistent, seen_at, probe_line, probe_lines, blame_word, blame_lines, if_any}
 use Rattle.session_core.specs.inner.Texts.{blame_text}
 use Rattle.session_core.specs.inner.Telling.{unseen_line, verdict_lines}
-use Rattle.session_core.proofs.Minimum.{no_diagnosis, some_diagnosis}
 
 -- ---- a wire that is seen or not
 
@@ -42,9 +42,6 @@ verdicts-next s names verdicts i v h g = rw (drop_more names i [] h, drop_more v
 
 -- ---- whether some state agrees
 
-pub least-some : (costs : List ℕ) (h : List Bool) (hs : List (List Bool)) → is_some (least costs (h ∷ hs)) ≡ true
-least-some costs h hs = grind arith
-
 pub if_any-none : (costs : List ℕ) (s : Name) (hs : List (List Bool)) (lines : List (List (List ℕ))) → false ≡ is_some (least costs hs) → if_any s hs lines ≡ inconsistent s ∷ []
 if_any-none costs s hs lines e = grind arith
 
@@ -61,13 +58,6 @@ if_diagnosis-none costs s hs lines e = by_least-none costs s hs lines (least cos
 -- a list that is not empty
 if_any-nonempty : (s : Name) (ds : List (List Bool)) (lines : List (List (List ℕ))) → ds ≢ [] → if_any s ds lines ≡ lines
 if_any-nonempty s ds lines some = grind arith
-
-by_least-some : (costs : List ℕ) (hs : List (List Bool)) (o : Option ℕ) → least costs hs ≡ o → true ≡ is_some o → diagnoses costs hs ≢ []
-by_least-some costs hs None e f = absurd (let never : ⊥ = cc in never)
-by_least-some costs hs (Some n) e f = λ none. some_diagnosis costs n hs e none
-
-pub has_diagnosis : (costs : List ℕ) (hs : List (List Bool)) → true ≡ is_some (least costs hs) → diagnoses costs hs ≢ []
-has_diagnosis costs hs e = by_least-some costs hs (least costs hs) refl e
 
 pub if_diagnosis-some : (costs : List ℕ) (s : Name) (hs : List (List Bool)) (lines : List (List (List ℕ))) → true ≡ is_some (least costs hs) → if_any s (diagnoses costs hs) lines ≡ lines
 if_diagnosis-some costs s hs lines e = if_any-nonempty s (diagnoses costs hs) lines (has_diagnosis costs hs e)

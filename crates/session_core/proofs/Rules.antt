@@ -1,27 +1,17 @@
 -- Lemmas with which the check proves the rest of the contracts.
-use Rattle.session_core.proofs.Desks.{diagnoses-asked, fits_after, judged_after, least-asked, seen-asked, states-asked, stays_after}
 use Rattle.session_core.proofs.FedBytes.{breaks_feed, carries_last, fed_feed}
 use Rattle.session_core.proofs.Lines.{kept-full, kept-room}
 use Rattle.session_core.proofs.NamedParts.{is_among-nowhere, marked_all}
-use Rattle.session_core.proofs.NextStates.{level_next}
 use Rattle.session_core.proofs.OneMove.{obeys_refusal}
 use Rattle.session_core.proofs.Questions.{lines-next, unseen-one}
 use Rattle.session_core.proofs.RefusedLines.{refused_stays}
-use Rattle.session_core.proofs.Rooms.{carved_so, is_held, released_runs, released_words, run_long}
 use Rattle.session_core.proofs.SessionMoves.{lists_all, lists_none}
-use Rattle.session_core.proofs.ShownService.{holds_more, known-there, place-within, written_back}
+use Rattle.session_core.proofs.ShownService.{holds_more, known-there, place-within}
 use Rattle.session_core.proofs.Told.{lines_broken, said_more}
 use Rattle.session_rules.proofs.Spellings.{replies_one, writes_none}
-use Rattle.std.proofs.Math.Nat.{mul-le-mul_right}
 use Rattle.std.proofs.lemmas.Bool.{and_left}
 use Rattle.std.proofs.lemmas.Bool.Decides.{nat_tests}
 use Rattle.std.proofs.lemmas.Nat.{mul-le}
-
-pub ruleset desk_after_pass = (diagnoses-asked, fits_after, judged_after, seen-asked, stays_after, written_back)
-
-pub ruleset desk_still_fits = (fits_after, stays_after, written_back)
-
-pub ruleset lent_room = (carved_so, is_held, least-asked, level_next, released_runs, released_words, run_long, seen-asked, states-asked, stays_after, written_back)
 
 pub ruleset marked_parts = (and_left, is_among-nowhere, marked_all)
 
@@ -38,5 +28,3 @@ pub ruleset fed_bytes = (breaks_feed, carries_last, fed_feed)
 pub ruleset open_sessions = (holds_more, known-there, nat_tests, obeys_refusal)
 
 pub ruleset nothing_written = (writes_none)
-
-pub ruleset products_within = (mul-le-mul_right)

@@ -16,9 +16,9 @@ use Rattle.session_rules.proofs.Spellings.{writes_none}
 use Rattle.session_rules.proofs.Broken.{makes_none, makes_more, breaks_after}
 use Rattle.session_table.specs.Tables.{StandsAt}
 use Rattle.session_core.specs.Services.{Shown, ChangesTable}
-use Rattle.session_core.specs.declared.listed.Listed.{Listed}
-use Rattle.session_core.specs.declared.listed.NextState.{NextState}
-use Rattle.session_core.specs.inner.Desks.{is_listed, is_found}
+use Rattle.engines.specs.declared.listed.Listed.{Listed}
+use Rattle.engines.specs.declared.listed.NextState.{NextState}
+use Rattle.engines.specs.Answers.{is_listed, is_found}
 use Rattle.session_core.specs.inner.Texts.{next_text}
 use Rattle.session_core.specs.inner.Obeying.{Obeys, goes_on, list_request, the_found, found_by, found_moves, PointMoves, MovesOn}
 use Rattle.session_rules.proofs.KeptCases.{step_from}
@@ -45,8 +45,8 @@ put_twice name v w (e ∷ es) = twice_by name v w e es (slice_cmp nat_cmp name e
 -- ---- once
 
 pub moves_on : {E : Type 0} (old new : Shown) (listed : Listed) (place : ℕ) (session : Name) (entry : Entry) (next : NextState) (state : List Bool) (before after : Option (List ℕ)) (result : Result Bool E)
-    → PointMoves old.subject listed old.table new.table place session entry next state → ChangesTable old new
-    → Replies before after result (line (next_text session old.subject.parts next state) ∷ []) → IfOk result (λ more. more ≡ is_found next)
+    → PointMoves old.system listed old.table new.table place session entry next state → ChangesTable old new
+    → Replies before after result (line (next_text session old.system.parts next state) ∷ []) → IfOk result (λ more. more ≡ is_found next)
     → MovesOn old new listed place session entry before after result
 moves_on old new listed place session entry next state before after result m stays reply more = grind arith
 
@@ -56,7 +56,7 @@ moves_on old new listed place session entry next state before after result m sta
 pub record Lists (old now : Shown) (listed : Listed) (place : ℕ) (session : Name) (entry : Entry) (count left : ℕ) (before after : Option (List ℕ)) : Type 0 where
   pub point : Option (List Bool)
   pub done : List Reply
-  pub both : done ++ listing (found_by old.subject listed session entry) left point ≡ listing (found_by old.subject listed session entry) count entry.point
+  pub both : done ++ listing (found_by old.system listed session entry) left point ≡ listing (found_by old.system listed session entry) count entry.point
   pub made : Makes old.table now.table (map (goes_on old.table session entry) done) before after
   pub moved : now ≡ record old { table = with_entry session (record entry { point = point }) old.table }
   pub stands : StandsAt now.table place session (record entry { point = point })
@@ -74,7 +74,7 @@ lists_none old listed place session entry count before stands = record {
 
 module _ (old : Shown) (listed : Listed) (place : ℕ) (session : Name) (entry : Entry) (count : ℕ) where
   abbrev next : Option (List Bool) → Reply
-  next = found_by old.subject listed session entry
+  next = found_by old.system listed session entry
 
   abbrev move : Reply → Step
   move = goes_on old.table session entry
@@ -95,8 +95,8 @@ module _ (old : Shown) (listed : Listed) (place : ℕ) (session : Name) (entry :
     split = ap (λ (n : ℕ). lists.done ++ listing next n lists.point) (let e : suc (count - (counter + 1)) ≡ count - counter = omega arith in e) ∙ lists.both
 
     module _ {E : Type 0} (result : Result Bool E) (m : MovesOn now new listed place session (at_point lists.point) b c result) where
-      same_next : the_found now.subject listed session (at_point lists.point) ≡ next lists.point
-      same_next = ap (λ (v : Shown). the_found v.subject listed session (at_point lists.point)) lists.moved
+      same_next : the_found now.system listed session (at_point lists.point) ≡ next lists.point
+      same_next = ap (λ (v : Shown). the_found v.system listed session (at_point lists.point)) lists.moved
 
       new_table : new.table ≡ with_entry session (at_point (next lists.point).point) old.table
       new_table = grind (arith, put_twice)
@@ -155,6 +155,6 @@ stepped table session entry (f ∷ found) = ap (λ (ms : List Step). goes_on tab
 
 -- the request was obeyed
 pub obeys_list : {T E : Type 0} (old new : Shown) (listed : Listed) (place : ℕ) (session : Name) (entry : Entry) (count : ℕ) (before after : Option (List ℕ)) (result : Result T E)
-    → is_listed old.subject listed ≡ true → StandsAt old.table place session entry
+    → is_listed old.system listed ≡ true → StandsAt old.table place session entry
     → CarriesOut old.table new.table (found_moves old listed session entry count) before after result → ChangesTable old new → Obeys old new session (list_request listed count) before after result
 obeys_list old new listed place session entry count before after result is stands given stays = grind (arith, stepped)

@@ -1,23 +1,21 @@
 -- What a service writes is one text of its system's answers: moves that were made, or broke off, are moves over the system too.
-use Rattle.std.proofs.Common.{◌≡◌, ℕ, true, ◌+◌, ◌^◌, ◌<◌, ◌≤◌, List, [], ◌∷◌, ◌++◌, map, length, Option, Some, refl, ap, sym, ◌∙◌, subst, append_assoc, arith}
+use Rattle.std.proofs.Common.{◌≡◌, ℕ, List, [], ◌∷◌, ◌++◌, map, length, Option, Some, refl, ap, sym, ◌∙◌, subst, append_assoc, arith}
 use Rattle.std.proofs.lemmas.Bool.Decides.{nat_tests}
 use Rattle.std.specs.Prelude.{nat_le}
 use Rattle.text_rules.specs.Names.{Name}
 use Rattle.state_rules.specs.Systems.{System}
-use Rattle.state_rules.specs.Graphs.{IsGraph}
 use Rattle.script_lang.specs.Script.{Line, Ask, Request, Dnnf, LeastNnf, line_of}
 use Rattle.session_rules.specs.Items.{Item, Plain}
 use Rattle.session_rules.specs.Spelling.{Spelled, Spells, Writes}
 use Rattle.session_rules.specs.Sessions.{Table, Entry, Step, entry_of, outcome, moves, said, left_by}
 use Rattle.session_rules.specs.Moves.{line_moves, script_moves}
 use Rattle.session_rules.specs.Carrying.{Makes, BreaksOff}
-use Rattle.session_rules.specs.GraphSystems.{HasLeastTexts, system_of}
+use Rattle.engines.specs.Offered.{HasGoodTexts}
 use Rattle.session_rules.specs.CaseSizes.{IsCaseOf, HasCasesOf}
 use Rattle.session_rules.proofs.Spellings.{spells_more}
 use Rattle.session_rules.proofs.Broken.{left_by-append, said-replies}
 use Rattle.session_rules.proofs.KeptCases.{step_from, moves-keep}
-use Rattle.session_core.proofs.GraphSpellings.{case-spelled, least-spelled}
-use Rattle.session_core.specs.Services.{Shown, SpellReplies, served_system, moves_of}
+use Rattle.session_core.specs.Services.{Shown, SpellReplies, open_system, moves_of}
 
 -- A move leads to the same table as another, and a text that spells its items spells the other's.
 pub record IsExact (exact move : Step) : Type 0 where
@@ -78,15 +76,14 @@ splits (e ∷ made) others move (m ∷ ms) h =
 breaks_same : (new : Table) (es ms : List Step) (a b : Option (List ℕ)) → AreExact es ms → BreaksOff new es a b → BreaksOff new ms a b
 breaks_same new es ms a b h broke = grind (arith, splits, same_said)
 
--- ---- over a graph whose cases have a text
+-- ---- over a system whose graphs have texts
 
-module _ (shown : Shown) (is_graph : IsGraph shown.subject.graph) (room : length shown.subject.parts + length shown.subject.wires ≤ shown.subject.graph.vars) (few : length shown.subject.graph.nodes + length shown.subject.parts + 1 < 2 ^ 32)
-    (drawn : shown.subject.extras.least ≡ true → HasLeastTexts shown.subject) where
+module _ (shown : Shown) (good : HasGoodTexts shown.system) where
   abbrev system : System
-  system = system_of shown.subject
+  system = open_system shown.system
 
   abbrev served : System
-  served = served_system shown.subject
+  served = shown.system
 
   -- a graph by its text, after a line, in place of the item that it spells
   told : (table : Table) (l item : Item) (text : List ℕ) → Spelled item text
@@ -98,10 +95,10 @@ module _ (shown : Shown) (is_graph : IsGraph shown.subject.graph) (room : length
     answer over request entry = map (step_from table s) (outcome over s (nat_le shown.limit (length table)) entry request)
 
     dnnf_exact : (entry : Option Entry) → entry_of s table ≡ entry → AreExact (answer served Dnnf entry) (answer system Dnnf entry)
-    dnnf_exact entry there = grind (arith, nat_tests, case-spelled)
+    dnnf_exact entry there = grind (arith, nat_tests, good.dnnf)
 
     least_exact : (entry : Option Entry) → entry_of s table ≡ entry → AreExact (answer served LeastNnf entry) (answer system LeastNnf entry)
-    least_exact entry there = grind (arith, nat_tests, least-spelled)
+    least_exact entry there = grind (arith, nat_tests, good.least)
 
   line_exact : (table : Table) (l : Line) → HasCasesOf system table → AreExact (moves served shown.limit table l) (moves system shown.limit table l)
   line_exact table (Ask s Dnnf) h = dnnf_exact table s (h s) (entry_of s table) refl
@@ -120,13 +117,13 @@ module _ (shown : Shown) (is_graph : IsGraph shown.subject.graph) (room : length
       grind (arith, are_more, script_exact (left_by table (one table l)) lines (cases_kept table l h))
 
   -- if the moves of a script were made, those over the system were
-  pub makes_over : (old new : Table) (lines : List (List ℕ)) (a b : Option (List ℕ)) → HasCasesOf (system_of shown.subject) old
-      → Makes old new (script_moves (moves_of shown) old lines) a b → Makes old new (script_moves (line_moves (system_of shown.subject) shown.limit) old lines) a b
+  pub makes_over : (old new : Table) (lines : List (List ℕ)) (a b : Option (List ℕ)) → HasCasesOf (open_system shown.system) old
+      → Makes old new (script_moves (moves_of shown) old lines) a b → Makes old new (script_moves (line_moves (open_system shown.system) shown.limit) old lines) a b
   makes_over old new lines a b h = makes_same old new _ _ a b (script_exact old lines h)
 
   -- if they broke off, so did those over the system
-  pub breaks_over : (old new : Table) (lines : List (List ℕ)) (a b : Option (List ℕ)) → HasCasesOf (system_of shown.subject) old
-      → BreaksOff new (script_moves (moves_of shown) old lines) a b → BreaksOff new (script_moves (line_moves (system_of shown.subject) shown.limit) old lines) a b
+  pub breaks_over : (old new : Table) (lines : List (List ℕ)) (a b : Option (List ℕ)) → HasCasesOf (open_system shown.system) old
+      → BreaksOff new (script_moves (moves_of shown) old lines) a b → BreaksOff new (script_moves (line_moves (open_system shown.system) shown.limit) old lines) a b
   breaks_over old new lines a b h = breaks_same new _ _ a b (script_exact old lines h)
 
   cases_after : (table : Table) (lines : List (List ℕ)) → HasCasesOf system table → HasCasesOf system (left_by table (script_moves (line_moves system shown.limit) table lines))
@@ -137,7 +134,7 @@ module _ (shown : Shown) (is_graph : IsGraph shown.subject.graph) (room : length
       (cases_after (left_by table (one table l)) lines (cases_kept table l h))
 
   -- so what is written spells the replies
-  pub spell_replies : (table : Table) (lines : List (List ℕ)) → HasCasesOf (system_of shown.subject) table → SpellReplies shown table lines
+  pub spell_replies : (table : Table) (lines : List (List ℕ)) → HasCasesOf (open_system shown.system) table → SpellReplies shown table lines
   spell_replies table lines h = record {
     made = λ new a b made. makes_over table new lines a b h made;
     replies = λ new a b made. subst (Writes a b) (said-replies system shown.limit table lines) (makes_over table new lines a b h made).written;

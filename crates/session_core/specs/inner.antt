@@ -1,6 +1,5 @@
 -- Definitions that only private contracts cite.
 pub mod Gathering
-pub mod Bases
 pub mod Desks
 pub mod Texts
 pub mod Telling

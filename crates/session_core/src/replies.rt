@@ -10,14 +10,14 @@ ghost use Rattle.script_lang.specs.Refusals as line_refusals;
 ghost use Rattle.session_rules.specs.Replies.{faulty_names, count_text};
 ghost use Rattle.session_core.specs.inner.Texts.{blame_text, spaced_before, min_text, next_text};
 
-use crate::listed::NextState;
 use conditioner::is_faulty;
 use device_model::Name;
 use diag_edge::{Chunk, Sink, WriteFailed, put_line};
+use engines::NextState;
 use itoa::Buffer;
-use probe_report::Blame;
 use script_lang::LineRefusal;
 use session_rules::Refusal;
+use state_rules::Blame;
 
 pub(crate) fn put_line_refusal<O: Sink>(
     out: &mut O,

@@ -4,7 +4,7 @@ ghost use Rattle.text_rules.specs.TextLines.{last_line};
 ghost use Rattle.diag_edge.specs.Edge.{HasCause, RoseExactly};
 ghost use Rattle.session_rules.specs.Moves.{script_moves};
 ghost use Rattle.session_rules.specs.Carrying.{BreaksOff, CarriesOut};
-ghost use Rattle.session_core.specs.Services.{moves_of, ChangesTable};
+ghost use Rattle.session_core.specs.Services.{shown_by, moves_of, ChangesTable};
 ghost use Rattle.session_core.specs.Serving.{Served};
 ghost use Rattle.session_core.specs.inner.Gathering.{Fed, ended_from};
 
@@ -12,6 +12,7 @@ use crate::line_buffer::LineBuffer;
 use crate::service::Service;
 use crate::sessions::Sessions;
 use diag_edge::{Sink, Source, WriteFailed};
+use engines::Engine;
 
 /// The most bytes of a script in one read.
 pub const READ_LIMIT: usize = 4096;
@@ -32,20 +33,20 @@ pub enum ServeEnd {
 
 // Takes one byte of the script. A line feed ends a line, which is answered.
 #[tactic(auto, using(crate::proofs::Rules::fed_bytes))]
-fn take_byte<O: Sink>(
-    sessions: &mut Sessions,
+fn take_byte<E: Engine, O: Sink>(
+    sessions: &mut Sessions<E>,
     gathered: &mut LineBuffer,
     byte: u8,
     out: &mut O,
 ) -> Result<(), WriteFailed>
-    ensures ok { OnOk result (Fed (moves_of sessions.old)
-        sessions.old.table sessions.new.table gathered.old gathered.new (byte ∷ [])
+    ensures ok { OnOk result (Fed (moves_of (shown_by E.about sessions.old))
+        (shown_by E.about sessions.old).table (shown_by E.about sessions.new).table gathered.old gathered.new (byte ∷ [])
         (O.got out.old) (O.got out.new)) }
-    ensures err { OnErr result (BreaksOff sessions.new.table
-        (script_moves (moves_of sessions.old) sessions.old.table
+    ensures err { OnErr result (BreaksOff (shown_by E.about sessions.new).table
+        (script_moves (moves_of (shown_by E.about sessions.old)) (shown_by E.about sessions.old).table
         (ended_from gathered.old (byte ∷ [])))
         (O.got out.old) (O.got out.new)) }
-    ensures stays { ChangesTable sessions.old sessions.new }
+    ensures stays { ChangesTable (shown_by E.about sessions.old) (shown_by E.about sessions.new) }
     ensures cause { HasCause (O.faults out.old) (O.faults out.new) result }
 {
     if byte == b'\n' {
@@ -58,20 +59,20 @@ fn take_byte<O: Sink>(
 }
 
 // Answers the lines that end in a piece of the script, and keeps what comes after the last.
-fn feed<O: Sink>(
-    sessions: &mut Sessions,
+fn feed<E: Engine, O: Sink>(
+    sessions: &mut Sessions<E>,
     gathered: &mut LineBuffer,
     piece: &[u8],
     out: &mut O,
 ) -> Result<(), WriteFailed>
-    ensures ok { OnOk result (Fed (moves_of sessions.old)
-        sessions.old.table sessions.new.table gathered.old gathered.new piece.now
+    ensures ok { OnOk result (Fed (moves_of (shown_by E.about sessions.old))
+        (shown_by E.about sessions.old).table (shown_by E.about sessions.new).table gathered.old gathered.new piece.now
         (O.got out.old) (O.got out.new)) }
-    ensures err { OnErr result (BreaksOff sessions.new.table
-        (script_moves (moves_of sessions.old) sessions.old.table
+    ensures err { OnErr result (BreaksOff (shown_by E.about sessions.new).table
+        (script_moves (moves_of (shown_by E.about sessions.old)) (shown_by E.about sessions.old).table
         (ended_from gathered.old piece.now))
         (O.got out.old) (O.got out.new)) }
-    ensures stays { ChangesTable sessions.old sessions.new }
+    ensures stays { ChangesTable (shown_by E.about sessions.old) (shown_by E.about sessions.new) }
     ensures cause { HasCause (O.faults out.old) (O.faults out.new) result }
 {
     for byte in piece {
@@ -82,16 +83,16 @@ fn feed<O: Sink>(
 
 // Answers a last line without a line feed, if there is one.
 #[tactic(auto, using(crate::proofs::Rules::fed_bytes))]
-fn finish<O: Sink>(
-    sessions: &mut Sessions,
+fn finish<E: Engine, O: Sink>(
+    sessions: &mut Sessions<E>,
     gathered: &LineBuffer,
     out: &mut O,
 ) -> Result<(), WriteFailed>
-    ensures carried { CarriesOut sessions.old.table sessions.new.table
-        (script_moves (moves_of sessions.old) sessions.old.table
+    ensures carried { CarriesOut (shown_by E.about sessions.old).table (shown_by E.about sessions.new).table
+        (script_moves (moves_of (shown_by E.about sessions.old)) (shown_by E.about sessions.old).table
         (last_line gathered.now))
         (O.got out.old) (O.got out.new) result }
-    ensures stays { ChangesTable sessions.old sessions.new }
+    ensures stays { ChangesTable (shown_by E.about sessions.old) (shown_by E.about sessions.new) }
     ensures cause { HasCause (O.faults out.old) (O.faults out.new) result }
 {
     if gathered.as_slice().is_empty() {
@@ -100,7 +101,7 @@ fn finish<O: Sink>(
     sessions.line(gathered.as_slice(), out)
 }
 
-impl Service {
+impl<E: Engine> Service<E> {
     /// Answers a script, at most `limit` bytes of it. The code answers each line as soon as its line feed is read. Each call begins with no
     /// unfinished line, and with the sessions as the last call left them, however it ended.
     pub fn serve<I: Source, O: Sink>(&mut self, input: &mut I, out: &mut O, limit: u64) -> ServeEnd
@@ -117,10 +118,10 @@ impl Service {
         // The bytes that were taken, and what was done with them.
         ensures served { (bytes : List ℕ) × (I.taken input.new ≡ I.taken input.old + length bytes)
             × Consumes (I.left input.old) (I.left input.new) bytes
-            × Served result (moves_of self.old)
-            self.old.table self.new.table bytes limit (IsAtEnd (I.left input.new))
+            × Served result (moves_of (shown_by E.about self.old))
+            (shown_by E.about self.old).table (shown_by E.about self.new).table bytes limit (IsAtEnd (I.left input.new))
             (O.got out.old) (O.got out.new) }
-        ensures stays { ChangesTable self.old self.new }
+        ensures stays { ChangesTable (shown_by E.about self.old) (shown_by E.about self.new) }
     {
         self.gathered.clear();
         let mut piece = [0u8; READ_LIMIT];

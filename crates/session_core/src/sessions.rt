@@ -6,11 +6,12 @@ ghost use Rattle.session_rules.specs.Carrying.{CarriesOut};
 ghost use Rattle.session_rules.specs.Sessions.{entry_of};
 ghost use Rattle.session_core.specs.Services.{moves_of, ChangesTable};
 ghost use Rattle.session_core.specs.inner.Obeying.{Obeys, IsOpen, no_such};
+ghost use Rattle.session_core.specs.Services.{shown_by};
 
 use crate::desk::Desk;
-use crate::listed::Listed;
 use crate::replies::{put_line_refusal, put_refusal};
 use diag_edge::{Sink, WriteFailed, put_line};
+use engines::{Engine, Listed};
 use script_lang::{AskedLine, Noted, Request, parse_line};
 use session_rules::Refusal;
 use session_table::OpenSessions;
@@ -23,31 +24,31 @@ pub(crate) struct OpenSession<'a> {
     pub(crate) place: usize,
 }
 
-/// The sessions over names and a graph.
-pub(crate) struct Sessions {
-    pub(crate) desk: Desk,
+/// The sessions over an engine.
+pub(crate) struct Sessions<E: Engine> {
+    pub(crate) desk: Desk<E>,
     pub(crate) open: OpenSessions,
 }
 
-impl Model for Sessions {
-    ghost use Rattle.session_core.specs.Services.{Shown};
+impl<E: Engine> Model for Sessions<E> {
+    ghost use Rattle.session_core.specs.Services.{Held};
     ghost use Rattle.session_core.specs.inner.Holding.{HoldsTogether};
 
-    ghost Value = { Shown };
+    ghost Value = { Held E };
 
-    ghost view = { λ s. record { subject = s.desk.subject; limit = s.open.limit; table = s.open.table } };
+    ghost view = { λ s. record { engine = s.desk.engine; limit = s.open.limit; table = s.open.table } };
 
-    ghost invariant = { λ s. HoldsTogether s.desk.subject s.open };
+    ghost invariant = { λ s. HoldsTogether (E.about s.desk.engine).system s.open };
 }
 
-impl Sessions {
+impl<E: Engine> Sessions<E> {
     /// Answers one line. If a write fails, the line is carried out up to the reply that met the failure, with what this says.
     #[tactic(auto, using(crate::proofs::Rules::nothing_written))]
     pub(crate) fn line<O: Sink>(&mut self, line: &[u8], out: &mut O) -> Result<(), WriteFailed>
-        ensures carried { CarriesOut self.old.table self.new.table
-            (moves_of self.old self.old.table line.now)
+        ensures carried { CarriesOut (shown_by E.about self.old).table (shown_by E.about self.new).table
+            (moves_of (shown_by E.about self.old) (shown_by E.about self.old).table line.now)
             (O.got out.old) (O.got out.new) result }
-        ensures stays { ChangesTable self.old self.new }
+        ensures stays { ChangesTable (shown_by E.about self.old) (shown_by E.about self.new) }
         ensures cause { HasCause (O.faults out.old) (O.faults out.new) result }
     {
         match parse_line(line).asked() {
@@ -66,7 +67,7 @@ impl Sessions {
         out: &mut O,
     ) -> Result<(), WriteFailed>
         requires { is_short_name name.now ≡ true }
-        ensures obeys { Obeys self.old self.new name.now (asked request.entry) (O.got out.old) (O.got out.new) result }
+        ensures obeys { Obeys (shown_by E.about self.old) (shown_by E.about self.new) name.now (asked request.entry) (O.got out.old) (O.got out.new) result }
         ensures cause { HasCause (O.faults out.old) (O.faults out.new) result }
     {
         match self.open.find(name) {
@@ -82,8 +83,8 @@ impl Sessions {
     #[tactic(auto, using(crate::proofs::Rules::open_sessions))]
     fn start<O: Sink>(&mut self, name: &[u8], out: &mut O) -> Result<(), WriteFailed>
         requires short { is_short_name name.now ≡ true }
-        requires closed { entry_of name.now self.old.table ≡ None }
-        ensures obeys { Obeys self.old self.new name.now Start (O.got out.old) (O.got out.new) result }
+        requires closed { entry_of name.now (shown_by E.about self.old).table ≡ None }
+        ensures obeys { Obeys (shown_by E.about self.old) (shown_by E.about self.new) name.now Start (O.got out.old) (O.got out.new) result }
         ensures cause { HasCause (O.faults out.old) (O.faults out.new) result }
     {
         if self.open.is_full() {
@@ -100,8 +101,8 @@ impl Sessions {
         request: Request<'_>,
         out: &mut O,
     ) -> Result<(), WriteFailed>
-        requires { IsOpen self.old.table session }
-        ensures obeys { Obeys self.old self.new session.entry.name.now (asked request.entry)
+        requires { IsOpen (shown_by E.about self.old).table session }
+        ensures obeys { Obeys (shown_by E.about self.old) (shown_by E.about self.new) session.entry.name.now (asked request.entry)
             (O.got out.old) (O.got out.new) result }
         ensures cause { HasCause (O.faults out.old) (O.faults out.new) result }
     {
@@ -122,8 +123,8 @@ impl Sessions {
 
     #[tactic(auto, using(crate::proofs::Rules::open_sessions))]
     fn stop<O: Sink>(&mut self, session: OpenSession<'_>, out: &mut O) -> Result<(), WriteFailed>
-        requires { IsOpen self.old.table session }
-        ensures obeys { Obeys self.old self.new session.entry.name.now Stop (O.got out.old) (O.got out.new) result }
+        requires { IsOpen (shown_by E.about self.old).table session }
+        ensures obeys { Obeys (shown_by E.about self.old) (shown_by E.about self.new) session.entry.name.now Stop (O.got out.old) (O.got out.new) result }
         ensures cause { HasCause (O.faults out.old) (O.faults out.new) result }
     {
         self.open.stop(session.place);
@@ -140,12 +141,12 @@ impl Sessions {
         known: Option<bool>,
         out: &mut O,
     ) -> Result<(), WriteFailed>
-        requires { IsOpen self.old.table session }
-        ensures obeys { Obeys self.old self.new session.entry.name.now (Note what name.now known)
+        requires { IsOpen (shown_by E.about self.old).table session }
+        ensures obeys { Obeys (shown_by E.about self.old) (shown_by E.about self.new) session.entry.name.now (Note what name.now known)
             (O.got out.old) (O.got out.new) result }
         ensures cause { HasCause (O.faults out.old) (O.faults out.new) result }
     {
-        match self.desk.basis().find(what, name) {
+        match self.desk.find(what, name) {
             None => put_refusal(out, session.name, no_such(what)),
             Some(at) => {
                 self.open.note(session.place, what, at, known);

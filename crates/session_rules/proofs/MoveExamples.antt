@@ -16,6 +16,7 @@ either = record {
   costs = 1 ∷ 1 ∷ [];
   consistent = λ known. (false ∷ false ∷ []) ∷ (false ∷ true ∷ []) ∷ (true ∷ false ∷ []) ∷ [];
   extras = no_extras;
+  graphs = true;
   texts = open_texts;
 }
 

@@ -1,5 +1,5 @@
 -- A system whose consistent states are the models of a graph. Its variables are the parts, then the wires, then inner ones.
-use Rattle.std.specs.Prelude.{◌≡◌, ℕ, ◌+◌, ◌-◌, ◌*◌, ◌^◌, ◌<◌, All, List, ◌++◌, map, length, replicate}
+use Rattle.std.specs.Prelude.{◌≡◌, true, ℕ, ◌+◌, ◌-◌, ◌*◌, ◌^◌, ◌<◌, All, List, ◌++◌, map, length, replicate}
 use Rattle.text_rules.specs.Names.{Name}
 use Rattle.state_rules.specs.Cases.{Case}
 use Rattle.state_rules.specs.declared.extras.Extras.{Extras}
@@ -22,6 +22,7 @@ graph_system parts wires costs graph = record {
   costs = costs;
   consistent = λ known. models graph (case_evidence graph.vars known) (length parts);
   extras = no_extras;
+  graphs = true;
   texts = open_texts;
 }
 

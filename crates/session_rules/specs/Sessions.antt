@@ -13,7 +13,7 @@ use Rattle.script_lang.specs.Script.{Line, Blank, Refused, Ask, Request, Start, 
 use Rattle.script_lang.specs.declared.line.Noted.TheVariants.{Wire, Part}
 use Rattle.script_lang.specs.Refusals as line_refusals
 use Rattle.session_rules.specs.declared.refusal.Refusal.{Refusal}
-use Rattle.session_rules.specs.declared.refusal.Refusal.TheVariants.{NoSession, OpenAlready, Full, NoWire, NoPart, NoLevels, NoLeast}
+use Rattle.session_rules.specs.declared.refusal.Refusal.TheVariants.{NoSession, OpenAlready, Full, NoWire, NoPart, NoLevels, NoLeast, NoGraph}
 use Rattle.session_rules.specs.Refusals.{refusal_row, error_words}
 use Rattle.session_rules.specs.Items.{Item, line}
 use Rattle.session_rules.specs.Replies.{Found, next_of, level_of, listing, told, dnnf_item, least_item}
@@ -86,7 +86,8 @@ when_open system s entry (After names) =
     if list_all (is_among system.parts) names
     then becomes s entry.known (Some (map (λ part. not (is_among names part)) system.parts)) (codes "ok")
     else declined s NoPart
-when_open system s entry Dnnf = tells (line (s ∷ codes "dnnf" ∷ []) ∷ dnnf_item system entry.known ∷ [])
+when_open system s entry Dnnf =
+    if system.graphs then tells (line (s ∷ codes "dnnf" ∷ []) ∷ dnnf_item system entry.known ∷ []) else declined s NoGraph
 when_open system s entry Level =
     option_map_or (λ top. lists entry (level_of system s top entry.known) 1) system.extras.levels (declined s NoLevels)
 when_open system s entry (Levels count) =

@@ -18,6 +18,8 @@ pub enum Refusal {
     NoLevels,
     /// The graph of the diagnoses is not written here.
     NoLeast,
+    /// No graph is written here.
+    NoGraph,
 }
 
 impl Refusal {
@@ -34,10 +36,11 @@ impl Refusal {
             Refusal::NoPart => (10, "no part"),
             Refusal::NoLevels => (11, "no levels"),
             Refusal::NoLeast => (12, "no least"),
+            Refusal::NoGraph => (13, "no graph"),
         }
     }
 
-    /// Returns the number of the refusal, 6 to 12. Lower ones are those of lines.
+    /// Returns the number of the refusal, 6 to 13. Lower ones are those of lines.
     pub fn number(self) -> u32
         ensures { result ≡ (refusal_row self).0 }
     {

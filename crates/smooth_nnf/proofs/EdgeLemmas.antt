@@ -12,7 +12,7 @@ use Rattle.state_rules.specs.Graphs.{Node, true_node, node_at, edges}
 use Rattle.nnf_text.specs.WrittenGraphs.{node_words, graph_text}
 use Rattle.nnf_text.proofs.LineTexts.{header, lines, text-lines}
 use Rattle.minimiser.specs.Costs.{cost_at}
-use Rattle.minimiser.specs.Stored.{cost_in}
+use Rattle.state_rules.specs.Numbers.{cost_in}
 use Rattle.minimiser.proofs.Sums.{cost_in-some}
 use Rattle.smooth_nnf.specs.Layouts.{Layout, literal_pair, literal_pairs, cheapest_children, child_line, or_lines, node_lines, last_line, all_lines}
 use Rattle.smooth_nnf.specs.inner.Drawings.{Drawing, shown, filled_line}

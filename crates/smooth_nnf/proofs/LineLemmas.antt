@@ -22,7 +22,7 @@ use Rattle.nnf_text.proofs.Extended.{extends_each}
 use Rattle.nnf_text.specs.WrittenGraphs.{node_words}
 use Rattle.nnf_text.proofs.LineTexts.{and-spaced, or-spaced}
 use Rattle.minimiser.specs.Costs.{cost_at}
-use Rattle.minimiser.specs.Stored.{cost_in}
+use Rattle.state_rules.specs.Numbers.{cost_in}
 use Rattle.minimiser.proofs.Sums.{cost_in-some}
 use Rattle.smooth_nnf.specs.Layouts.{Layout, and_over, node_lines, own_line, cheapest_children, child_line, or_behind, or_lines, lines_to, own_lines, last_line}
 use Rattle.smooth_nnf.specs.inner.Drawings.{Drawing, IsDrawing, IsUnder, shown, filled_line}

@@ -7,7 +7,7 @@ use Rattle.std.proofs.lemmas.List.Sums.{sum_by-cons}
 use Rattle.state_rules.proofs.Lists.{length-filter-le}
 use Rattle.state_rules.specs.Graphs.{Node, node_at, edges}
 use Rattle.minimiser.specs.Costs.{cost_at}
-use Rattle.minimiser.specs.Stored.{cost_in}
+use Rattle.state_rules.specs.Numbers.{cost_in}
 use Rattle.minimiser.proofs.Sums.{cost_at-map, cost_in-some}
 use Rattle.smooth_nnf.specs.Layouts.{costs_just, cheapest_children, lines_to, own_lines}
 use Rattle.smooth_nnf.specs.inner.Drawings.{lines_after}

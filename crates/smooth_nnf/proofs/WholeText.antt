@@ -27,7 +27,8 @@ use Rattle.minimiser.specs.Costs.{part_cost, known_at, node_cost, least_at}
 use Rattle.minimiser.specs.inner.Held.{held_cost}
 use Rattle.minimiser.proofs.LeastOfModels.{AddHeld, least_is, state_of, assignment_of}
 use Rattle.minimiser.proofs.Models.{diagnosis-in, diagnosis-out}
-use Rattle.minimiser.specs.Stored.{cost_in, costs_to, AreLeastCosts}
+use Rattle.state_rules.specs.Numbers.{cost_in}
+use Rattle.minimiser.specs.Stored.{costs_to, AreLeastCosts}
 use Rattle.smooth_nnf.specs.Layouts.{Layout, own_lines, layout_of, literal_pairs, lines_to, node_lines, last_at, last_line, all_lines, least_graph, least_text}
 use Rattle.smooth_nnf.specs.inner.Drawings.{lines_after}
 use Rattle.smooth_nnf.proofs.LinePlaces.{lines_after-le}

@@ -4,7 +4,7 @@ ghost use Rattle.std.specs.List.{filter, range_with_len};
 ghost use Rattle.state_rules.specs.Bits.{has_bit};
 ghost use Rattle.state_rules.specs.Graphs.{mentions};
 ghost use Rattle.minimiser.specs.Costs.{cost_at};
-ghost use Rattle.minimiser.specs.Stored.{cost_in};
+ghost use Rattle.state_rules.specs.Numbers.{cost_in};
 ghost use Rattle.part_sets.specs.Numbers.{part_words};
 ghost use Rattle.smooth_nnf.specs.Layouts.{fillers, filler, literal_line};
 ghost use Rattle.smooth_nnf.specs.inner.Sets.{part_at};
@@ -62,7 +62,7 @@ impl<'a> Drawing<'a> {
         self.lines[node as usize]
     }
 
-    // Returns the least cost at a node, or `NONE`.
+    // Returns the least cost at a node, or `NO_COST`.
     #[tactic(auto, using(crate::proofs::Rules::stored_costs))]
     pub(crate) fn value(&self, node: u32) -> u32
         requires { node < length self.now.graph.nodes }

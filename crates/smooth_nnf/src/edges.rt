@@ -7,8 +7,7 @@ ghost use Rattle.smooth_nnf.specs.inner.Texts.{child_edges};
 
 use crate::drawing::Drawing;
 use crate::or_node::OrNode;
-use minimiser::NONE;
-use state_rules::NodeKind;
+use state_rules::{NO_COST, NodeKind};
 
 // Returns the number of children of all lines.
 #[tactic(auto, using(crate::proofs::Rules::counted_edges))]
@@ -29,7 +28,7 @@ fn last_edges(drawing: &Drawing<'_>) -> u64
     ensures { result ≡ length (last_line (shown drawing.now)).kids }
 {
     let root = drawing.graph().len() - 1;
-    if drawing.value(root) == NONE {
+    if drawing.value(root) == NO_COST {
         return 0;
     }
     u64::from(drawing.missing_count(None, root) + 1)
@@ -42,7 +41,7 @@ fn node_edges(drawing: &Drawing<'_>, node: u32) -> u64
 {
     let graph = drawing.graph();
     let cost = drawing.value(node);
-    if cost == NONE {
+    if cost == NO_COST {
         return 0;
     }
     edges_by(drawing, node, graph.what(node), graph.kids(node), cost)
@@ -53,7 +52,7 @@ fn node_edges(drawing: &Drawing<'_>, node: u32) -> u64
 fn edges_by(drawing: &Drawing<'_>, node: u32, what: NodeKind, kids: &[u32], cost: u32) -> u64
     requires node { node < length drawing.now.graph.nodes }
     requires is { node_at drawing.now.graph.nodes node ≡ record { what = what; kids = kids.now } }
-    requires cost { cost ≢ NONE }
+    requires cost { cost ≢ NO_COST }
     ensures { result ≡ edges (lines_by (shown drawing.now) node cost what kids.now) }
 {
     let parts = drawing.parts();

@@ -6,7 +6,7 @@ ghost use Rattle.state_rules.specs.Graphs.{node_at, literal_node};
 ghost use Rattle.nnf_text.specs.Extending.{Extends};
 ghost use Rattle.nnf_text.specs.WrittenGraphs.{node_words};
 ghost use Rattle.minimiser.specs.Costs.{cost_at};
-ghost use Rattle.minimiser.specs.Stored.{cost_in};
+ghost use Rattle.state_rules.specs.Numbers.{cost_in};
 ghost use Rattle.smooth_nnf.specs.Layouts.{and_over, literal_pair, lines_by, literal_children, cheapest_children, or_behind, node_lines, last_line};
 ghost use Rattle.smooth_nnf.specs.inner.Drawings.{IsUnder, shown};
 ghost use Rattle.smooth_nnf.specs.inner.Texts.{lines_text, child_text};
@@ -16,9 +16,8 @@ use crate::filling::add_filled;
 use crate::or_node::OrNode;
 use crate::places::cheapest_count;
 use diag_edge::Sink;
-use minimiser::NONE;
 use nnf_text::{GraphText, add_counted_range, add_node};
-use state_rules::NodeKind;
+use state_rules::{NO_COST, NodeKind};
 
 // Adds the lines of the parts' literals.
 #[tactic(auto, using(nnf_text::proofs::Extended::extending))]
@@ -66,7 +65,7 @@ pub(crate) fn add_last<O: Sink>(text: &mut GraphText, out: &mut O, drawing: &Dra
         (spaced (node_words (last_line (shown drawing.now)))) }
 {
     let root = drawing.graph().len() - 1;
-    if drawing.value(root) == NONE {
+    if drawing.value(root) == NO_COST {
         add_node(text, out, NodeKind::Or, &[]);
         return;
     }
@@ -79,7 +78,7 @@ fn add_node_lines<O: Sink>(text: &mut GraphText, out: &mut O, drawing: &Drawing<
         (lines_text (node_lines (shown drawing.now) (node, node_at drawing.now.graph.nodes node))) }
 {
     let cost = drawing.value(node);
-    if cost == NONE {
+    if cost == NO_COST {
         add_node(text, out, NodeKind::Or, &[]);
         return;
     }
@@ -99,7 +98,7 @@ fn add_lines_by<O: Sink>(
     requires node { node < length drawing.now.graph.nodes }
     requires kids { kids.now ≡ (node_at drawing.now.graph.nodes node).kids }
     requires known { cost_at (map cost_in drawing.now.values) node ≡ Some cost }
-    requires cost { cost ≢ NONE }
+    requires cost { cost ≢ NO_COST }
     ensures { Extends (O.shown out.old) (O.shown out.new) text.old text.new
         (lines_text (lines_by (shown drawing.now) node cost (node_at drawing.now.graph.nodes node).what kids.now)) }
 {

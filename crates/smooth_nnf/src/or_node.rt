@@ -2,7 +2,7 @@
 ghost use Rattle.std.specs.Prelude.{◌≡◌, ◌≢◌, ◌^◌, ◌<◌, length, All};
 ghost use Rattle.state_rules.specs.Graphs.{node_at};
 ghost use Rattle.state_rules.specs.declared.nodes.NodeKind.TheVariants.{Or};
-ghost use Rattle.minimiser.specs.declared.pass.TheConstants.{NONE};
+ghost use Rattle.state_rules.specs.declared.numbers.TheConstants.{NO_COST};
 
 use crate::drawing::Drawing;
 
@@ -17,6 +17,6 @@ pub(crate) struct OrNode<'a> {
     ghost inside: { node < length drawing.now.graph.nodes },
     ghost kids_inside: { All (λ child. child < length drawing.now.graph.nodes) kids.now },
     ghost few: { length kids.now < 2 ^ 32 },
-    ghost some: { cost ≢ NONE },
+    ghost some: { cost ≢ NO_COST },
     ghost is: { node_at drawing.now.graph.nodes node ≡ record { what = Or; kids = kids.now } },
 }

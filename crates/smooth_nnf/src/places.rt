@@ -1,12 +1,11 @@
 ghost use Rattle.std.specs.Prelude.{◌≡◌, ◌≢◌, ◌+◌, ◌*◌, ◌^◌, ◌<◌, ◌≤◌, map, length, All};
 ghost use Rattle.state_rules.specs.Graphs.{edges};
-ghost use Rattle.minimiser.specs.Stored.{cost_in};
+ghost use Rattle.state_rules.specs.Numbers.{cost_in};
 ghost use Rattle.smooth_nnf.specs.Layouts.{cheapest_children, lines_to, own_lines};
 ghost use Rattle.smooth_nnf.specs.inner.Drawings.{lines_after};
 
-use minimiser::NONE;
 use node_store::Graph;
-use state_rules::NodeKind;
+use state_rules::{NO_COST, NodeKind};
 
 // Computes the own line of each node. Returns the number of lines up to the last of them.
 #[tactic(auto, using(crate::proofs::Rules::placed_lines))]
@@ -32,7 +31,7 @@ fn lines_to(what: NodeKind, kids: &[u32], values: &[u32], cost: u32) -> u32
     requires few { length kids.now < 2 ^ 32 }
     ensures { result ≡ lines_to (map cost_in values.now) (record { what = what; kids = kids.now }) (cost_in cost) }
 {
-    if cost == NONE {
+    if cost == NO_COST {
         return 0;
     }
     match what {
@@ -46,7 +45,7 @@ fn lines_to(what: NodeKind, kids: &[u32], values: &[u32], cost: u32) -> u32
 pub(crate) fn cheapest_count(kids: &[u32], values: &[u32], cost: u32) -> u32
     requires kids { All (λ child. child < length values.now) kids.now }
     requires few { length kids.now < 2 ^ 32 }
-    requires cost { cost ≢ NONE }
+    requires cost { cost ≢ NO_COST }
     ensures count { result ≡ length (cheapest_children (map cost_in values.now) cost kids.now) }
     ensures most { result ≤ length kids.now }
 {

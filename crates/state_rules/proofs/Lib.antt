@@ -4,6 +4,8 @@ pub mod Bits
 pub mod Cases
 pub mod Members
 pub mod Order
+pub mod Diagnoses
+pub mod Verdicts
 pub mod WordBits
 pub mod NodeValues
 pub mod NodesFit

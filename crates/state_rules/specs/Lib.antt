@@ -2,6 +2,8 @@ pub mod Bits
 pub mod Cases
 pub mod Ranking
 pub mod Levels
+pub mod Numbers
+pub mod Verdicts
 pub mod Assignments
 pub mod Values
 pub mod Systems

@@ -16,13 +16,14 @@ abbrev pub open_texts : Texts
 open_texts = record { dnnf = None; least = None }
 
 -- the names of parts and wires, the cost of each part's failure, the health states that agree with a case, which extras are offered
--- (`levels`, `leastnnf`), and the texts of the graphs, if they are fixed
+-- (`levels`, `leastnnf`), whether its graphs are written, and their texts, if they are fixed
 pub record System : Type 0 where
   pub parts : List (List ℕ)
   pub wires : List (List ℕ)
   pub costs : List ℕ
   pub consistent : Case → List (List Bool)
   pub extras : Extras
+  pub graphs : Bool
   pub texts : Texts
 
 -- the same system with these extras, or with these texts

@@ -1,9 +1,9 @@
 -- What bits that were met show of parts and of wires.
 use Rattle.std.specs.Prelude.{◌≡◌, ◌≢◌, ℕ, ◌+◌, ◌<◌, ◌⊎◌, Bool, true, false, List, length, slice_index, slice_index_or, ⊤}
 use Rattle.state_rules.specs.Bits.{bit_in}
-use Rattle.probe_report.specs.declared.verdicts.Blame.{Blame}
-use Rattle.probe_report.specs.declared.verdicts.Blame.TheVariants.{Always, Sometimes, Never, Inconsistent}
-use Rattle.minimiser.specs.Stored.{cost_in}
+use Rattle.state_rules.specs.declared.blame.Blame.{Blame}
+use Rattle.state_rules.specs.declared.blame.Blame.TheVariants.{Always, Sometimes, Never, Inconsistent}
+use Rattle.state_rules.specs.Numbers.{cost_in}
 use Rattle.clause_answers.specs.Questions.{Question, least_with}
 use Rattle.clause_answers.specs.inner.Listed.{Meets}
 

@@ -5,7 +5,7 @@ use Rattle.diag_edge.specs.ErrorLines.{above_line}
 use Rattle.dnnf_compiler.specs.Compiled.{most_nodes}
 use Rattle.level_lister.specs.Bits.{level_bits}
 use Rattle.smooth_nnf.specs.Sizes.{drawing_bits}
-use Rattle.session_core.specs.declared.limits.TheConstants.{SERVED_BITS}
+use Rattle.graph_engine.specs.declared.limits.TheConstants.{SERVED_BITS}
 
 -- the bits of states by rising cost, over the greatest graph that is compiled from clauses of this sum
 abbrev pub levels_bits : (sum vars parts : ℕ) → Option ℕ → ℕ

@@ -1,5 +1,5 @@
 -- Services, and the graphs that they take.
-use Rattle.std.specs.Prelude.{◌≡◌, ◌⊎◌, ◌<◌, ◌≤◌, ℕ, true, [], length, Option, Some, None, Result, Ok, Err, IfSome}
+use Rattle.std.specs.Prelude.{◌≡◌, ◌⊎◌, ◌<◌, ◌≤◌, ℕ, true, List, [], length, Option, Some, None, Result, Ok, Err, IfSome}
 use Rattle.state_rules.specs.declared.extras.Extras.{Extras}
 use Rattle.state_rules.specs.Graphs.{Graph, IsGraph}
 use Rattle.state_rules.specs.Systems.{System}
@@ -8,9 +8,10 @@ use Rattle.device_model.specs.Devices.{Device}
 use Rattle.frame_unroller.specs.declared.unrolling.UnrollError.{UnrollError}
 use Rattle.frame_unroller.specs.declared.unrolling.UnrollError.TheVariants.{Memory as NoMemory}
 use Rattle.session_rules.specs.Spelling.{IsGraphOf}
-use Rattle.session_rules.specs.GraphSystems.{system_of}
-use Rattle.session_core.specs.declared.limits.TheConstants.{SERVED_VARIABLES, SERVED_NODES}
-use Rattle.session_core.specs.Services.{Shown, CanList, CanDraw}
+use Rattle.session_rules.specs.Items.{Item}
+use Rattle.session_core.specs.Services.{Shown, open_system}
+use Rattle.graph_engine.specs.declared.limits.TheConstants.{SERVED_VARIABLES, SERVED_NODES}
+use Rattle.graph_engine.specs.Served.{CanList, CanDraw}
 use Rattle.device_files.specs.declared.refusal.Refusal.{Refusal}
 use Rattle.device_files.specs.declared.status.Status.{Status}
 use Rattle.device_files.specs.Output.{Output, no_memory}
@@ -31,15 +32,19 @@ pub record CanTell (extras : Extras) (graph : Graph) (parts : ℕ) : Type 0 wher
   pub levels : IfSome extras.levels (CanList graph parts)
   pub least : extras.least ≡ true → CanDraw graph parts
 
--- No session is open, and lines are answered as over the system with at most `sessions` sessions open.
-pub record Answers (system : System) (sessions : ℕ) (service : Shown) : Type 0 where
-  pub none_open : service.table ≡ []
-  pub same : answers_of (system_of service.subject) service.limit ≡ answers_of system sessions
+-- the answers of a service, by what it shows
+abbrev pub answers_by : Shown → List (List ℕ) → List Item
+answers_by shown = answers_of (open_system shown.system) shown.limit
 
--- The service answers as the behaviour does, or the behaviour prints its refusal.
-abbrev pub IsFor : Behaviour → Result Shown Refusal → Type 0
-IsFor behaviour (Ok service) = behaviour ≡ AnswersScript (answers_of (system_of service.subject) service.limit)
-IsFor behaviour (Err refusal) = IfSome (refusal_output refusal) (λ output. behaviour ≡ Prints output)
+-- No session is open, and lines are answered as over the system with at most `sessions` sessions open.
+pub record Answers (system : System) (sessions : ℕ) (shown : Shown) : Type 0 where
+  pub none_open : shown.table ≡ []
+  pub same : answers_by shown ≡ answers_of system sessions
+
+-- The service that was made answers as the behaviour does, or the behaviour prints its refusal. `show` gives what a service shows.
+abbrev pub IsFor : {S : Type 0} → (S → Shown) → Behaviour → Result S Refusal → Type 0
+IsFor show behaviour (Ok service) = behaviour ≡ AnswersScript (answers_by (show service))
+IsFor show behaviour (Err refusal) = IfSome (refusal_output refusal) (λ output. behaviour ≡ Prints output)
 
 -- Memory ran out before the script was begun, or the behaviour was followed.
 abbrev pub FulfilsBehaviourUnlessMemory : Behaviour → Reading → Reading → Writing → Writing → Status → Type 0

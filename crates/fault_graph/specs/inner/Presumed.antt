@@ -2,8 +2,8 @@
 use Rattle.std.specs.Prelude.{◌≡◌, ℕ, zero, suc, ◌==◌, List, ◌⊎◌, Some, slice_get, if◌then◌else◌}
 use Rattle.state_rules.specs.Graphs.{Graph}
 use Rattle.minimiser.specs.LeastStates.{Suspect}
-use Rattle.probe_report.specs.declared.verdicts.Blame.{Blame}
-use Rattle.probe_report.specs.declared.verdicts.Blame.TheVariants.{Always, Sometimes, Never}
+use Rattle.state_rules.specs.declared.blame.Blame.{Blame}
+use Rattle.state_rules.specs.declared.blame.Blame.TheVariants.{Always, Sometimes, Never}
 use Rattle.probe_report.specs.Verdicts.{blame_of}
 
 -- the guess for a part, from its word and `suspect`: 1 if it is open and faulty in some diagnosis

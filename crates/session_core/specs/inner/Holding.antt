@@ -1,17 +1,17 @@
 -- What the parts of a service have in common.
-use Rattle.std.specs.Prelude.{◌≡◌, length}
-use Rattle.session_rules.specs.GraphSystems.{Subject}
+use Rattle.std.specs.Prelude.{◌≡◌, ◌+◌, length}
+use Rattle.state_rules.specs.Systems.{System}
 use Rattle.session_table.specs.Tables.{Opened}
+use Rattle.engines.specs.Offered.{IsOffered}
 use Rattle.session_core.specs.Services.{Shown}
-use Rattle.session_core.specs.inner.Bases.{IsBasis}
 
--- the subject is a basis, and the sessions are over its parts, wires and variables
-pub record HoldsTogether (subject : Subject) (opened : Opened) : Type 0 where
-  pub parts : opened.parts ≡ length subject.parts
-  pub wires : opened.wires ≡ length subject.wires
-  pub vars : opened.vars ≡ subject.graph.vars
-  pub basis : IsBasis subject
+-- the system may be served, and the sessions are over its parts and wires
+pub record HoldsTogether (system : System) (opened : Opened) : Type 0 where
+  pub parts : opened.parts ≡ length system.parts
+  pub wires : opened.wires ≡ length system.wires
+  pub vars : opened.vars ≡ length system.parts + length system.wires
+  pub offered : IsOffered system
 
--- what is shown of a subject with these sessions
-abbrev pub shown_of : Subject → Opened → Shown
-shown_of subject opened = record { subject = subject; limit = opened.limit; table = opened.table }
+-- what is shown of a system with these sessions
+abbrev pub shown_of : System → Opened → Shown
+shown_of system opened = record { system = system; limit = opened.limit; table = opened.table }

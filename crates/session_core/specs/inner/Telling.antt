@@ -3,8 +3,8 @@ use Rattle.std.specs.Prelude.{◌≡◌, ℕ, ◌<◌, Bool, Option, List, [], �
 use Rattle.text_rules.specs.Names.{Name}
 use Rattle.state_rules.specs.Cases.{Case}
 use Rattle.state_rules.specs.Systems.{System}
-use Rattle.probe_report.specs.Probed.{probed}
-use Rattle.probe_report.specs.declared.verdicts.Blame.{Blame as Verdict}
+use Rattle.state_rules.specs.Numbers.{probed}
+use Rattle.state_rules.specs.declared.blame.Blame.{Blame as Verdict}
 use Rattle.session_rules.specs.Items.{line}
 use Rattle.session_rules.specs.Replies.{end_line, probe_line, probe_lines, if_any, seen_at}
 use Rattle.session_rules.specs.Spelling.{Writes}
@@ -36,4 +36,4 @@ pub record Said (before now : Option (List ℕ)) (left all : List (List (List �
 
 -- the numbers on a desk say of each wire what the case does
 abbrev pub AreProbed : OnDesk → Type 0
-AreProbed desk = (wire : ℕ) (bit : Bool) → wire < length desk.subject.wires → probed desk.numbers wire bit ≡ least_seen desk wire bit
+AreProbed desk = (wire : ℕ) (bit : Bool) → wire < length desk.system.wires → probed desk.numbers wire bit ≡ least_seen desk wire bit

@@ -3,11 +3,11 @@ use Rattle.std.specs.Prelude.{ℕ, Bool, List, [], ◌∷◌, Option, Some, None
 use Rattle.std.specs.Fmt.{decimal}
 use Rattle.std.specs.List.{flat_map}
 use Rattle.text_rules.specs.Names.{Name}
-use Rattle.probe_report.specs.declared.verdicts.Blame.{Blame}
-use Rattle.probe_report.specs.declared.verdicts.Blame.TheVariants.{Always, Sometimes, Never, Inconsistent}
+use Rattle.state_rules.specs.declared.blame.Blame.{Blame}
+use Rattle.state_rules.specs.declared.blame.Blame.TheVariants.{Always, Sometimes, Never, Inconsistent}
 use Rattle.session_rules.specs.Replies.{faulty_names}
-use Rattle.session_core.specs.declared.listed.NextState.{NextState}
-use Rattle.session_core.specs.declared.listed.NextState.TheVariants as Next
+use Rattle.engines.specs.declared.listed.NextState.{NextState}
+use Rattle.engines.specs.declared.listed.NextState.TheVariants as Next
 
 -- names, each after a space
 abbrev pub spaced_before : List Name → List ℕ

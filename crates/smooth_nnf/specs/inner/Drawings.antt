@@ -5,7 +5,7 @@ use Rattle.state_rules.specs.declared.nodes.NodeKind.TheVariants.{Or}
 use Rattle.state_rules.specs.Graphs.{Node, Graph, node_at, mentions, edges, IsGraph}
 use Rattle.state_rules.specs.Bits.{has_bit}
 use Rattle.minimiser.specs.Costs.{cost_at}
-use Rattle.minimiser.specs.Stored.{cost_in}
+use Rattle.state_rules.specs.Numbers.{cost_in}
 use Rattle.part_sets.specs.Numbers.{part_words}
 use Rattle.part_sets.specs.PartSets.{ArePartsBelow, AreLacking}
 use Rattle.smooth_nnf.specs.Layouts.{Layout, and_over, fillers, lines_to, own_lines}

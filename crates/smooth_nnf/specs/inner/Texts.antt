@@ -6,7 +6,7 @@ use Rattle.state_rules.specs.Graphs.{Node}
 use Rattle.state_rules.specs.Bits.{has_bit}
 use Rattle.nnf_text.specs.WrittenGraphs.{node_words}
 use Rattle.minimiser.specs.Costs.{cost_at}
-use Rattle.minimiser.specs.Stored.{cost_in}
+use Rattle.state_rules.specs.Numbers.{cost_in}
 use Rattle.smooth_nnf.specs.Layouts.{filler, costs_just, child_line}
 use Rattle.smooth_nnf.specs.inner.Sets.{part_at}
 use Rattle.smooth_nnf.specs.inner.Drawings.{Drawing, shown, missing_in}

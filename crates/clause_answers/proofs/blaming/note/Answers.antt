@@ -1,7 +1,7 @@
 use Rattle.std.proofs.Common.{◌≡◌, ℕ, get_or, set, ◌∙◌, arith, below_more}
 use Rattle.std.proofs.lemmas.List.{get_or-set_same, get_or-set_other, get_or_default}
 use Rattle.state_rules.specs.Bits.{bit_in}
-use Rattle.probe_report.specs.declared.verdicts.Blame.TheVariants.{Inconsistent}
+use Rattle.state_rules.specs.declared.blame.Blame.TheVariants.{Inconsistent}
 use Rattle.clause_answers.specs.inner.Reported.{noted}
 use Rattle.clause_answers.proofs.blaming.note.Goals as goal
 

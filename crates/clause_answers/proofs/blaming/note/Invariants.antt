@@ -1,6 +1,6 @@
 use Rattle.std.proofs.Common.{◌≡◌, ℕ, ◌<◌, ◌≤◌, get_or}
 use Rattle.state_rules.specs.Bits.{bit_in}
-use Rattle.probe_report.specs.declared.verdicts.Blame.TheVariants.{Inconsistent}
+use Rattle.state_rules.specs.declared.blame.Blame.TheVariants.{Inconsistent}
 use Rattle.clause_answers.specs.inner.Reported.{noted}
 use Rattle.clause_answers.proofs.blaming.note.Given as goal
 

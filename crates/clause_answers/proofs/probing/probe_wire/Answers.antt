@@ -2,7 +2,7 @@ use Rattle.std.proofs.Common.{◌≡◌, ◌+◌, Some, length, ap, ◌∙◌, i
 use Rattle.std.proofs.Math.ListN.{length-set}
 use Rattle.std.proofs.lemmas.Bool.{cases_eq}
 use Rattle.std.proofs.lemmas.List.{get_or-set_same, get_or-set_other}
-use Rattle.minimiser.specs.Stored.{cost_in}
+use Rattle.state_rules.specs.Numbers.{cost_in}
 use Rattle.clause_answers.specs.inner.Asking.{Fits, cost_of}
 use Rattle.clause_answers.proofs.Probes.{number-right, noted-list, noted-other}
 use Rattle.clause_answers.proofs.probing.probe_wire.Goals as goal

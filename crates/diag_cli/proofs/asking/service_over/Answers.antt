@@ -1,10 +1,9 @@
-use Rattle.std.proofs.Common.{ap}
-use Rattle.session_rules.specs.GraphSystems.{system_of}
-use Rattle.session_core.specs.Services.{Shown}
-use Rattle.diag_cli.specs.Behaviours.{answers_of}
+use Rattle.std.proofs.Common.{ap, sym, ◌∙◌}
+use Rattle.nnf_ask.specs.Asking.{asked_names}
+use Rattle.diag_cli.proofs.AskedServices.{asked_answers}
 use Rattle.diag_cli.proofs.asking.service_over.Goals as goal
 
 pub returns-in-Ok-over-clause-ready : goal.returns-in-Ok-over-clause-ready
 returns-in-Ok-over-clause-ready c =
-    let is = c.in-Ok-over.ensures in
-    record { none_open = ap (λ (s : Shown). s.table) is; same = ap (λ (s : Shown). answers_of (system_of c.in-Ok-over.service.subject) s.limit) is }
+    asked_answers c.args.health c.args.sessions c.args.graph _ _ c.in_ok-costs.costs.items (ap (asked_names c.args.health) (sym c.vars.ensures.vars) ∙ c.in-Ok.ensures.names)
+    c.in_ok-costs.ensures.costs _ c.in-Ok-over.ensures

@@ -5,6 +5,8 @@ use Rattle.device_files.specs.Refusals.{refusal_output}
 use Rattle.device_files.proofs.ForestChoices.{by_any, by_same}
 use Rattle.device_files.proofs.KeptRefusals.{refused_then}
 use Rattle.diag_cli.specs.Behaviours.{if_within, served_device}
+use Rattle.session_core.specs.Services.{shown_by}
+use Rattle.graph_engine.specs.Served.{about_of}
 use Rattle.diag_cli.proofs.Services.{refused_for, service_for}
 use Rattle.diag_cli.proofs.devices.device_service.Goals as goal
 
@@ -20,4 +22,4 @@ pub returns-clause-behaviour : goal.returns-clause-behaviour
 returns-clause-behaviour c =
     let made = c.service_within.ensures in
     let options = c.args.options in
-    by_same made.within (λ choose within. rw c.in_ok-device.ensures (service_for (served_device options) options.sessions _ (λ service. c.in_ok-device.device) c.service_within.result within made.service))
+    by_same made.within (λ choose within. rw c.in_ok-device.ensures (service_for (served_device options) options.sessions _ (shown_by about_of) (λ service. c.in_ok-device.device) c.service_within.result within made.service))

@@ -1,6 +1,7 @@
 use Rattle.std.proofs.Common.{◌≡◌, ◌∙◌, [], length, ap, sym, arith}
 use Rattle.std.proofs.lemmas.List.{length-map}
 use Rattle.device_model.specs.declared.component.Component.{Component}
+use Rattle.graph_engine.specs.Served.{served_system}
 use Rattle.diag_cli.proofs.ServedDevices.{device_answers}
 use Rattle.diag_cli.proofs.devices.service_over.Goals as goal
 
@@ -13,8 +14,8 @@ pub returns-in-Ok-clause-service : goal.returns-in-Ok-clause-service
 returns-in-Ok-clause-service c =
     let names = c.in_ok-parts.ensures in
     let options = c.args.options in
-    device_answers options c.args.device c.args.graph c.requires.graph c.in-Ok.service (c.in-Ok.ensures ∙ (λ i. record {
-      subject = record { parts = names.parts i; wires = names.wires i; costs = names.costs i; graph = c.args.graph; extras = options.extras };
+    device_answers options c.args.device c.args.graph c.requires.graph _ (c.in-Ok.ensures ∙ (λ i. record {
+      system = served_system (record { parts = names.parts i; wires = names.wires i; costs = names.costs i; graph = c.args.graph; extras = options.extras });
       limit = options.sessions;
       table = [];
     }))

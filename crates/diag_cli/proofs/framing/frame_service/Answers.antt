@@ -5,6 +5,8 @@ use Rattle.device_files.proofs.ForestChoices.{by_any, by_same}
 use Rattle.device_files.proofs.KeptRefusals.{refused_then}
 use Rattle.diag_cli.specs.Behaviours.{served_frames}
 use Rattle.diag_cli.specs.Frames.{sequential_in, if_unrolled}
+use Rattle.session_core.specs.Services.{shown_by}
+use Rattle.graph_engine.specs.Served.{about_of}
 use Rattle.diag_cli.proofs.Services.{refused_for, service_for}
 use Rattle.diag_cli.proofs.framing.frame_service.Goals as goal
 
@@ -21,4 +23,4 @@ pub returns-clause-behaviour : goal.returns-clause-behaviour
 returns-clause-behaviour c =
     let made = c.service_within.ensures in
     let options = c.args.options in
-    by_same made.within (λ choose within. rw c.in_ok-seq.ensures.read (service_for (served_frames c.args.frames options) options.sessions _ (λ service. c.in_ok-seq.seq) c.service_within.result within made.service))
+    by_same made.within (λ choose within. rw c.in_ok-seq.ensures.read (service_for (served_frames c.args.frames options) options.sessions _ (shown_by about_of) (λ service. c.in_ok-seq.seq) c.service_within.result within made.service))

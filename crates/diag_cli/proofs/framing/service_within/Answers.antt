@@ -9,6 +9,7 @@ use Rattle.device_files.specs.Refusals.{refusal_output}
 use Rattle.device_files.proofs.ForestChoices.{by_any, has_sum}
 use Rattle.diag_cli.specs.Besides.{in_few_bits}
 use Rattle.diag_cli.proofs.FewBits.{fault_through}
+use Rattle.graph_engine.specs.Served.{served_system}
 use Rattle.diag_cli.proofs.ServedFrames.{not_unrolled_told, unrolled_gives, many_parts, many_costs, frames_answer}
 use Rattle.diag_cli.proofs.framing.service_within.Goals as goal
 
@@ -91,9 +92,9 @@ returns-in-Ok-over-clause-service c =
     let costs = c.in_ok-costs.ensures.costs ∙ ap (λ ps. plain_costs (length ps)) c.parts-count.ensures.parts in
     frames_answer c.args.seq.now c.args.frames c.in-Ok.made c.in-Ok.ensures.unrolled c.in-Ok.ensures.valid c.in-Ok.ensures.describes
     c.in_ok-graph.graph some.0 (c.in_ok-graph.ensures.graph some.0 some.1)
-    options c.in_ok-costs.costs.items c.in-Ok-over.service costs
+    options c.in_ok-costs.costs.items _ costs
     (c.in-Ok-over.ensures ∙ (λ i. record {
-      subject = record { parts = c.into_vec.ensures i; wires = c.into_vec-2.ensures i; costs = c.in_ok-costs.costs.items; graph = c.in_ok-graph.graph; extras = options.extras };
+      system = served_system (record { parts = c.into_vec.ensures i; wires = c.into_vec-2.ensures i; costs = c.in_ok-costs.costs.items; graph = c.in_ok-graph.graph; extras = options.extras });
       limit = options.sessions;
       table = [];
     }))

@@ -1,10 +1,10 @@
 use Rattle.std.proofs.Common.{[], inl, inr, refl, arith, codes}
 use Rattle.text_rules.specs.TextLines.{cut, whole_lines, last_line, all_lines}
 use Rattle.diag_edge.proofs.GrownBytes.{consumes_none}
-use Rattle.session_rules.specs.GraphSystems.{system_of}
-use Rattle.session_core.specs.Services.{moves_of}
-use Rattle.diag_cli.specs.Behaviours.{Ended, Failed, Cut, read_error, answers_of}
+use Rattle.session_core.specs.Services.{shown_by, moves_of}
+use Rattle.diag_cli.specs.Behaviours.{Ended, Failed, Cut, read_error}
 use Rattle.device_files.specs.Output.{too_long_line}
+use Rattle.diag_cli.specs.inner.Serving.{answers_by}
 use Rattle.diag_cli.specs.declared.serving.TheConstants.{SCRIPT_LIMIT}
 use Rattle.device_files.proofs.FailedWrites.{gives_all, gives_after}
 use Rattle.diag_cli.proofs.AnsweredScripts.{breaks_behind, breaks_at_once, ready_then, ready_begun, lines_begun, first_given, answered_first, stopped_at_once, stopped_at_end}
@@ -13,7 +13,7 @@ use Rattle.diag_cli.proofs.serving.answer.Goals as goal
 
 pub returns-in-Err-clause-served : goal.returns-in-Err-clause-served
 returns-in-Err-clause-served g c =
-    let shown = c.args.service.now in
+    let shown = shown_by g.E.Engine.about c.args.service.now in
     served_shown (g.I.Source.shown_is _) (g.I.Source.shown_is _) (g.O.Sink.shown_is _) (g.O.Sink.shown_is _) [] (omega arith) (consumes_none _) (inr (
       refl,
       record {
@@ -27,7 +27,7 @@ returns-in-Err-clause-served g c =
 
 pub returns-in-WriteFault-clause-served : goal.returns-in-WriteFault-clause-served
 returns-in-WriteFault-clause-served g c =
-    let shown = c.args.service.now in
+    let shown = shown_by g.E.Engine.about c.args.service.now in
     let done = c.in-WriteFault.ensures.served in
     let kept = c.in-WriteFault.ensures.read_fault.stayed (λ e. let never : ⊥ = cc in never) in
     served_shown (g.I.Source.shown_is _) (g.I.Source.shown_is _) (g.O.Sink.shown_is _) (g.O.Sink.shown_is _) done.0 done.1 done.2 (inr (
@@ -54,7 +54,7 @@ returns-in-WriteFault-clause-served g c =
 
 pub returns-in-Done-clause-served : goal.returns-in-Done-clause-served
 returns-in-Done-clause-served g c =
-    let shown = c.args.service.now in
+    let shown = shown_by g.E.Engine.about c.args.service.now in
     let done = c.in-Done.ensures.served in
     served_shown (g.I.Source.shown_is _) (g.I.Source.shown_is _) (g.O.Sink.shown_is _) (g.O.Sink.shown_is _) done.0 done.1 done.2 (inl (record {
       end = Ended;
@@ -66,9 +66,9 @@ returns-in-Done-clause-served g c =
 
 pub returns-in-ReadFault-clause-served : goal.returns-in-ReadFault-clause-served
 returns-in-ReadFault-clause-served g c =
-    let shown = c.args.service.now in
+    let shown = shown_by g.E.Engine.about c.args.service.now in
     let done = c.in-ReadFault.ensures.served in
-    let answers = answers_of (system_of shown.subject) shown.limit in
+    let answers = answers_by shown in
     let written = ready_then shown c.parts.ensures.sound _ _ _ _ _ c.requires.none_open c.parts.ensures.parts c.wires.ensures c.in-Ok.ensures.text _ (whole_lines done.0) _ done.3.1 in
     served_shown (g.I.Source.shown_is _) (g.I.Source.shown_is _) (g.O.Sink.shown_is _) (g.O.Sink.shown_is _) done.0 done.1 done.2 (inl (record {
       end = Failed;
@@ -79,9 +79,9 @@ returns-in-ReadFault-clause-served g c =
 
 pub returns-in-Limit-clause-served : goal.returns-in-Limit-clause-served
 returns-in-Limit-clause-served g c =
-    let shown = c.args.service.now in
+    let shown = shown_by g.E.Engine.about c.args.service.now in
     let done = c.in-Limit.ensures.served in
-    let answers = answers_of (system_of shown.subject) shown.limit in
+    let answers = answers_by shown in
     let written = ready_then shown c.parts.ensures.sound _ _ _ _ _ c.requires.none_open c.parts.ensures.parts c.wires.ensures c.in-Ok.ensures.text _ (whole_lines done.0) _ done.3.1 in
     served_shown (g.I.Source.shown_is _) (g.I.Source.shown_is _) (g.O.Sink.shown_is _) (g.O.Sink.shown_is _) done.0 done.1 done.2 (inl (record {
       end = Cut;

@@ -1,6 +1,6 @@
 use Rattle.std.proofs.Common.{◌≡◌, ℕ, ◌<◌, Some}
 use Rattle.std.specs.Prelude.{slice_get}
-use Rattle.probe_report.specs.declared.verdicts.Blame.TheVariants.{Inconsistent}
+use Rattle.state_rules.specs.declared.blame.Blame.TheVariants.{Inconsistent}
 use Rattle.fault_graph.proofs.answering.tell_none.Given as goal
 
 abbrev pub invariant-loop-verdict : goal.invariant-loop-verdict

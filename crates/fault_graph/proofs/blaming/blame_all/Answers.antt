@@ -3,7 +3,7 @@ use Rattle.std.proofs.lemmas.List.{get_or-replicate, length-replicate}
 use Rattle.std.proofs.lemmas.Option.{slice_get-get_or}
 use Rattle.conditioner.specs.Evidence.{bits_of}
 use Rattle.diagnosis_lister.specs.Listing.{fault_count}
-use Rattle.probe_report.specs.declared.verdicts.Blame.TheVariants.{Inconsistent}
+use Rattle.state_rules.specs.declared.blame.Blame.TheVariants.{Inconsistent}
 use Rattle.probe_report.proofs.Blames.{is-inconsistent}
 use Rattle.fault_graph.proofs.PresumedParts.{first-passes-all, first-same, presumed-right}
 use Rattle.fault_graph.proofs.blaming.blame_all.Goals as goal

@@ -5,7 +5,7 @@ use Rattle.state_rules.specs.declared.nodes.NodeKind.TheVariants.{And}
 use Rattle.state_rules.proofs.NodeValues.{below-each}
 use Rattle.state_rules.proofs.NodesFit.{fits}
 use Rattle.minimiser.specs.Costs.{cost_at, cost_by, node_cost, known_at, part_cost, sum_costs}
-use Rattle.minimiser.specs.Stored.{cost_in}
+use Rattle.state_rules.specs.Numbers.{cost_in}
 use Rattle.minimiser.proofs.Sums.{two_children}
 use Rattle.minimiser.proofs.pass.node_value.Goals as goal
 use Rattle.minimiser.proofs.pass.node_value.Goals.{In-len2}

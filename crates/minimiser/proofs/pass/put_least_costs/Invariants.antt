@@ -1,5 +1,6 @@
 use Rattle.std.proofs.Common.{◌≡◌, map, take, drop}
-use Rattle.minimiser.specs.Stored.{cost_in, costs_to}
+use Rattle.state_rules.specs.Numbers.{cost_in}
+use Rattle.minimiser.specs.Stored.{costs_to}
 use Rattle.minimiser.proofs.pass.put_least_costs.Given as goal
 
 -- the nodes that are left, and the values of those before them

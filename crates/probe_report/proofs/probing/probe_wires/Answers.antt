@@ -1,6 +1,6 @@
 use Rattle.std.proofs.Common.{sym, ◌≡◌, ◌+◌, ◌-◌, true, false, length, get_or, ◌∙◌, ap, arith}
 use Rattle.std.proofs.lemmas.Grind.{common_steps}
-use Rattle.minimiser.specs.Stored.{cost_in}
+use Rattle.state_rules.specs.Numbers.{cost_in}
 use Rattle.probe_report.proofs.Probed.{held-is, with-none, settled-is, exits-lowered}
 use Rattle.probe_report.proofs.probing.probe_wires.Goals as goal
 

@@ -8,17 +8,17 @@ use Rattle.session_core.proofs.desk.mark_named.Goals as goal
 
 pub loop-name-preserved : goal.loop-name-preserved
 loop-name-preserved c =
-    let parts = c.args.basis.now.parts in
+    let parts = c.args.parts.now in
     let name = c.in-Some.name.now in
     let left = tokens_left c.next.new.self in
-    let found = c.in-Some-find.ensures.place in
-    let is_part : is_among parts name ≡ true = is_among-at name parts c.in-Some-find.part found in
+    let found = c.in-Some-place_of.ensures in
+    let is_part : is_among parts name ≡ true = is_among-at name parts c.in-Some-place_of.part found in
     record {
       can_next = tt;
       is_finite = tt;
       named = c.loop-name.invariant.named ∙ ap (list_all (is_among parts)) c.in-Some.ensures.steps ∙ rw is_part;
-      marked = marked_more parts (words c.args.names.now) left name c.loop-name.state c.in-Some-find.part
-          c.in-Some-find.ensures.basis.parts_rise found (omega arith)
+      marked = marked_more parts (words c.args.names.now) left name c.loop-name.state c.in-Some-place_of.part
+          c.requires.rise found (omega arith)
           (subst (AreMarked parts (words c.args.names.now) c.loop-name.state) c.in-Some.ensures.steps c.loop-name.invariant.marked);
       bits = grind (arith, common_steps);
     }

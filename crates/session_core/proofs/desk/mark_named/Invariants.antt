@@ -10,7 +10,7 @@ abbrev pub invariant-loop-name : goal.invariant-loop-name
 invariant-loop-name l = record {
   can_next : goal.iterator-loop-name.can_next l.name-iterator;
   is_finite : goal.iterator-loop-name.is_finite l.name-iterator;
-  named : list_all (is_among l.basis.parts) (words l.names) ≡ list_all (is_among l.basis.parts) (tokens_left l.name-iterator);
-  marked : AreMarked l.basis.parts (words l.names) l.state (tokens_left l.name-iterator);
+  named : list_all (is_among l.parts) (words l.names) ≡ list_all (is_among l.parts) (tokens_left l.name-iterator);
+  marked : AreMarked l.parts (words l.names) l.state (tokens_left l.name-iterator);
   bits : All (λ s. s < 2) l.state;
 }

@@ -1,3 +1,4 @@
+use Rattle.session_core.specs.inner.Desks.{on_desk}
 use Rattle.std.proofs.Common.{◌≡◌, ◌-◌, ◌<◌, length}
 use Rattle.session_rules.specs.Sessions.{Entry}
 use Rattle.session_table.specs.Tables.{StandsAt}
@@ -10,9 +11,9 @@ use Rattle.session_core.proofs.listing.move_so_far.Given as goal
 abbrev pub invariant-loop : goal.invariant-loop
 invariant-loop g l = record {
   lists : (entry : Entry) → StandsAt l.fn.opened.table l.fn.session.place l.fn.session.name.now entry
-      → Lists (shown_of l.fn.desk.subject l.fn.opened) (shown_of l.desk.subject l.opened) l.fn.listed l.fn.session.place l.fn.session.name.now entry l.fn.count (l.fn.count - l.counter) (g.O.Sink.got l.fn.out) (g.O.Sink.got l.out);
-  together : HoldsTogether l.desk.subject l.opened;
-  stays : ChangesTable (shown_of l.fn.desk.subject l.fn.opened) (shown_of l.desk.subject l.opened);
+      → Lists (shown_of (on_desk g.E.Engine.about l.fn.desk).system l.fn.opened) (shown_of (on_desk g.E.Engine.about l.desk).system l.opened) l.fn.listed l.fn.session.place l.fn.session.name.now entry l.fn.count (l.fn.count - l.counter) (g.O.Sink.got l.fn.out) (g.O.Sink.got l.out);
+  together : HoldsTogether (on_desk g.E.Engine.about l.desk).system l.opened;
+  stays : ChangesTable (shown_of (on_desk g.E.Engine.about l.fn.desk).system l.fn.opened) (shown_of (on_desk g.E.Engine.about l.desk).system l.opened);
   still : l.fn.session.place < length l.opened.table;
   faults : g.O.Sink.faults l.out ≡ g.O.Sink.faults l.fn.out;
 }

@@ -2,7 +2,7 @@ use Rattle.std.proofs.Common.{sym, subst}
 use Rattle.diag_edge.specs.Edge.{Puts}
 use Rattle.text_rules.specs.Tokens.{spaced}
 use Rattle.conditioner.specs.Evidence.{bits_of}
-use Rattle.session_core.specs.declared.listed.NextState.{NextState}
+use Rattle.engines.specs.declared.listed.NextState.{NextState}
 use Rattle.session_core.specs.inner.Texts.{next_text}
 use Rattle.session_core.proofs.replies.put_next.Goals as goal
 

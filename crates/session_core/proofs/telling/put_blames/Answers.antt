@@ -1,8 +1,7 @@
 use Rattle.std.proofs.Common.{◌∙◌, ◌+◌, ◌<◌, ◌∷◌, [], ℕ, List, ap, ap₂, length, get_or, drop, codes, arith}
 use Rattle.std.proofs.lemmas.List.{get_or_read}
 use Rattle.text_rules.specs.Tokens.{spaced}
-use Rattle.probe_report.specs.declared.verdicts.Blame.TheVariants.{Always}
-use Rattle.session_rules.specs.GraphSystems.{Subject}
+use Rattle.state_rules.specs.declared.blame.Blame.TheVariants.{Always}
 use Rattle.session_rules.specs.Items.{line}
 use Rattle.session_core.specs.inner.Texts.{blame_text}
 use Rattle.session_core.specs.inner.Telling.{verdict_lines}
@@ -16,7 +15,7 @@ returns-in_err-put_blame-clause-reply g c =
     let names = c.parts-parts.result.now in
     let verdicts = c.verdicts-verdicts.result.now in
     let i = c.loop-part.part in
-    let parts = c.parts-parts.ensures.names ∙ ap (λ (u : Subject). u.parts) c.basis.ensures in
+    let parts = c.parts-parts.ensures.names in
     let below : i < length verdicts = omega (arith, ap length c.verdicts-verdicts.ensures.verdicts, c.verdicts-verdicts.ensures.one_a_part, ap length parts) in
     let name = c.as_slice.ensures.bytes ∙ get_or_read names i c.index-parts-part.result c.loop-part-test.true c.index-parts-part.is [] in
     let word = blame_text (get_or verdicts i Always) in
@@ -34,7 +33,7 @@ loop-part-preserved g c =
     let names = c.parts-parts.result.now in
     let verdicts = c.verdicts-verdicts.result.now in
     let i = c.loop-part.part in
-    let parts = c.parts-parts.ensures.names ∙ ap (λ (u : Subject). u.parts) c.basis.ensures in
+    let parts = c.parts-parts.ensures.names in
     let below : i < length verdicts = omega (arith, ap length c.verdicts-verdicts.ensures.verdicts, c.verdicts-verdicts.ensures.one_a_part, ap length parts) in
     let name = c.as_slice.ensures.bytes ∙ get_or_read names i c.index-parts-part.result c.loop-part-test.true c.index-parts-part.is [] in
     let word = blame_text (get_or verdicts i Always) in

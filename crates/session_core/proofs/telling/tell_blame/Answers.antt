@@ -1,24 +1,24 @@
+use Rattle.session_core.specs.inner.Desks.{on_desk, OnDesk, agreeing, diagnoses_asked, least_asked, blame_asked}
 use Rattle.std.proofs.Common.{◌≡◌, ◌∙◌, ◌∷◌, ◌++◌, ◌+◌, ◌<◌, [], ℕ, List, Bool, true, not, Some, map, length, refl, sym, ap, subst, arith}
 use Rattle.std.specs.Prelude.{slice_get, is_some}
 use Rattle.text_rules.specs.Names.{Name}
 use Rattle.state_rules.specs.Bits.{bit_in}
-use Rattle.probe_report.specs.declared.verdicts.Blame.{Blame}
-use Rattle.probe_report.specs.Verdicts.{verdict}
+use Rattle.state_rules.specs.declared.blame.Blame.{Blame}
+use Rattle.state_rules.specs.Verdicts.{verdict}
 use Rattle.session_rules.specs.Items.{line}
 use Rattle.session_rules.specs.Replies.{blame_lines, end_line, inconsistent}
 use Rattle.session_rules.specs.Spelling.{Replies}
 use Rattle.session_rules.proofs.Spellings.{replies_one}
-use Rattle.session_core.specs.Services.{served_system}
-use Rattle.session_core.specs.inner.Desks.{OnDesk, agreeing, diagnoses_asked, least_asked, blame_asked}
 use Rattle.session_core.specs.inner.Telling.{verdict_lines}
 use Rattle.session_core.proofs.Told.{lines_then, lines_broken}
-use Rattle.session_core.proofs.Questions.{if_diagnosis-none, if_diagnosis-some, has_diagnosis, blame_lines-are}
+use Rattle.state_rules.proofs.Diagnoses.{has_diagnosis}
+use Rattle.session_core.proofs.Questions.{if_diagnosis-none, if_diagnosis-some, blame_lines-are}
 use Rattle.session_core.proofs.telling.tell_blame.Goals as goal
 
 pub returns-then-not-is_consistent-clause-reply : goal.returns-then-not-is_consistent-clause-reply
 returns-then-not-is_consistent-clause-reply g c =
-    let old = c.args.desk.now in
-    let system = served_system old.subject in
+    let old = (on_desk g.E.Engine.about c.args.desk.now) in
+    let system = old.system in
     let s = c.args.session.now in
     let ds = diagnoses_asked old in
     subst (λ (lines : List (List (List ℕ))). Replies (g.O.Sink.got c.args.out.now) (g.O.Sink.got c.put_line.new.out) c.put_line.result (map line lines))
@@ -26,11 +26,11 @@ returns-then-not-is_consistent-clause-reply g c =
     (replies_one _ _ _ (line (inconsistent s)) _ refl c.put_line.ensures.bytes)
 
 -- the lines by verdicts are those by diagnoses
-told_lines : (desk : OnDesk) (s : Name) (verdicts : List Blame) → length verdicts ≡ length desk.subject.parts → true ≡ is_some (least_asked desk)
-    → ((part : ℕ) → part < length desk.subject.parts → slice_get verdicts part ≡ Some (blame_asked desk part))
-    → verdict_lines s desk.subject.parts verdicts ≡ blame_lines s (diagnoses_asked desk) 0 desk.subject.parts
+told_lines : (desk : OnDesk) (s : Name) (verdicts : List Blame) → length verdicts ≡ length desk.system.parts → true ≡ is_some (least_asked desk)
+    → ((part : ℕ) → part < length desk.system.parts → slice_get verdicts part ≡ Some (blame_asked desk part))
+    → verdict_lines s desk.system.parts verdicts ≡ blame_lines s (diagnoses_asked desk) 0 desk.system.parts
 told_lines desk s verdicts long some each =
-    let system = served_system desk.subject in
+    let system = desk.system in
     let ds : List (List Bool) = diagnoses_asked desk in
     blame_lines-are s ds 0 system.parts verdicts (has_diagnosis system.costs (agreeing desk) some) long
     (λ i h.
@@ -38,36 +38,36 @@ told_lines desk s verdicts long some each =
     each i h ∙ ap (λ n. Some (verdict (map (λ (state : List Bool). not (bit_in state n)) ds))) z)
 
 -- the lines that a desk answers are those
-blame_said : (old middle new : OnDesk) (s : Name) → middle ≡ old → new ≡ record middle { state = new.state; verdicts = new.verdicts }
-    → length new.verdicts ≡ length new.subject.parts → true ≡ is_some (least_asked old)
-    → ((part : ℕ) → part < length middle.subject.parts → slice_get new.verdicts part ≡ Some (blame_asked middle part))
-    → verdict_lines s new.subject.parts new.verdicts ≡ blame_lines s (diagnoses_asked old) 0 old.subject.parts
+blame_said : (old middle new : OnDesk) (s : Name) → middle ≡ old → new ≡ record middle { verdicts = new.verdicts }
+    → length new.verdicts ≡ length new.system.parts → true ≡ is_some (least_asked old)
+    → ((part : ℕ) → part < length middle.system.parts → slice_get new.verdicts part ≡ Some (blame_asked middle part))
+    → verdict_lines s new.system.parts new.verdicts ≡ blame_lines s (diagnoses_asked old) 0 old.system.parts
 blame_said old middle new s same stays long some each =
-    let parts : new.subject.parts ≡ old.subject.parts = grind arith in
+    let parts : new.system.parts ≡ old.system.parts = grind arith in
     ap (λ (ns : List Name). verdict_lines s ns new.verdicts) parts
     ∙ told_lines old s new.verdicts (long ∙ ap length parts) some
     (grind arith)
 
 pub returns-in_err-put_blames-clause-reply : goal.returns-in_err-put_blames-clause-reply
 returns-in_err-put_blames-clause-reply g c =
-    let old = c.args.desk.now in
-    let system = served_system old.subject in
+    let old = (on_desk g.E.Engine.about c.args.desk.now) in
+    let system = old.system in
     let s = c.args.session.now in
     let ds = diagnoses_asked old in
     let some = c.if-not-is_consistent.ensures.some in
-    let lines = blame_said old c.is_consistent.new.self c.blame.new.self s c.is_consistent.ensures.same c.blame.ensures.stays c.blame.ensures.long some c.blame.ensures.blame in
+    let lines = blame_said old (on_desk g.E.Engine.about c.is_consistent.new.self) (on_desk g.E.Engine.about c.blame.new.self) s c.is_consistent.ensures.same c.blame.ensures.stays c.blame.ensures.long some c.blame.ensures.blame in
     subst (λ (lines : List (List (List ℕ))). Replies (g.O.Sink.got c.args.out.now) (g.O.Sink.got c.put_blames.new.out) c.from_residual.result (map line lines))
     (sym (if_diagnosis-some system.costs s (agreeing old) (blame_lines s ds 0 system.parts ++ end_line s ∷ []) some))
     (grind (arith, lines_broken))
 
 pub returns-clause-reply : goal.returns-clause-reply
 returns-clause-reply g c =
-    let old = c.args.desk.now in
-    let system = served_system old.subject in
+    let old = (on_desk g.E.Engine.about c.args.desk.now) in
+    let system = old.system in
     let s = c.args.session.now in
     let ds = diagnoses_asked old in
     let some = c.if-not-is_consistent.ensures.some in
-    let lines = blame_said old c.is_consistent.new.self c.blame.new.self s c.is_consistent.ensures.same c.blame.ensures.stays c.blame.ensures.long some c.blame.ensures.blame in
+    let lines = blame_said old (on_desk g.E.Engine.about c.is_consistent.new.self) (on_desk g.E.Engine.about c.blame.new.self) s c.is_consistent.ensures.same c.blame.ensures.stays c.blame.ensures.long some c.blame.ensures.blame in
     subst (λ (lines : List (List (List ℕ))). Replies (g.O.Sink.got c.args.out.now) (g.O.Sink.got c.put_line-2.new.out) c.put_line-2.result (map line lines))
     (sym (if_diagnosis-some system.costs s (agreeing old) (blame_lines s ds 0 system.parts ++ end_line s ∷ []) some))
     (lines_then _ _ _ _ (blame_lines s ds 0 system.parts) (end_line s)

@@ -1,5 +1,5 @@
 use Rattle.std.proofs.Common.{◌≡◌, ◌*◌, map, length, take}
-use Rattle.minimiser.specs.Stored.{cost_in}
+use Rattle.state_rules.specs.Numbers.{cost_in}
 use Rattle.smooth_nnf.specs.Layouts.{own_lines}
 use Rattle.smooth_nnf.specs.inner.Drawings.{lines_after}
 use Rattle.smooth_nnf.proofs.places.place_lines.Given as goal

@@ -1,5 +1,5 @@
 use Rattle.std.proofs.Common.{◌≡◌, length, Some, replicate, arith, rules}
-use Rattle.probe_report.specs.declared.verdicts.Blame.TheVariants.{Inconsistent}
+use Rattle.state_rules.specs.declared.blame.Blame.TheVariants.{Inconsistent}
 use Rattle.clause_answers.specs.Questions.{least_under}
 use Rattle.clause_answers.specs.inner.Reported.{AreNoted, AreSettled}
 use Rattle.clause_answers.proofs.Blames.{none-blamed, none-diagnoses, no-bits, all-blamed}

@@ -1,7 +1,7 @@
 use Rattle.std.proofs.Common.{◌≡◌, false, ℕ, List, Option, Some, None, length, get_or, is_some, not, refl, sym, ◌∙◌, ap, subst, arith}
 use Rattle.conditioner.specs.Models.{models, least_under}
 use Rattle.minimiser.specs.Stored.{AreLeastCosts}
-use Rattle.minimiser.proofs.Models.{least-none}
+use Rattle.state_rules.proofs.Diagnoses.{least-none}
 use Rattle.level_lister.specs.inner.Skips.{skip_of}
 use Rattle.level_lister.proofs.Skips.{enough}
 use Rattle.level_lister.proofs.levels.Levels.put_skips.Goals as goal

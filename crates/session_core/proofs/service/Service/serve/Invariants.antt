@@ -1,3 +1,4 @@
+use Rattle.session_core.specs.Services.{shown_by}
 use Rattle.std.proofs.Common.{◌≡◌, ◌+◌, ◌-◌, ◌≤◌, ℕ, List, [], length}
 use Rattle.std.specs.Io.KnownBytes.{Consumes}
 use Rattle.session_core.specs.Services.{moves_of, ChangesTable}
@@ -12,8 +13,8 @@ invariant-loop-taken g l =
     record {
       so_far : (bytes : List ℕ) × (l.taken ≡ length bytes)
           × Consumes (I.left l.fn.input) (I.left l.input) bytes
-          × Fed (moves_of l.fn.self) l.fn.self.table l.self-inside.sessions.table [] l.self-inside.gathered bytes (O.got l.fn.out) (O.got l.out);
-      stays : ChangesTable l.fn.self l.self-inside.sessions;
+          × Fed (moves_of (shown_by g.E.Engine.about l.fn.self)) (shown_by g.E.Engine.about l.fn.self).table (shown_by g.E.Engine.about l.self-inside.sessions).table [] l.self-inside.gathered bytes (O.got l.fn.out) (O.got l.out);
+      stays : ChangesTable (shown_by g.E.Engine.about l.fn.self) (shown_by g.E.Engine.about l.self-inside.sessions);
       taken : I.taken l.input ≡ I.taken l.fn.input + l.taken;
       reads : I.faults l.input ≡ I.faults l.fn.input;
       writes : O.faults l.out ≡ O.faults l.fn.out;

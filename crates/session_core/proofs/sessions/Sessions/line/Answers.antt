@@ -1,3 +1,4 @@
+use Rattle.session_core.specs.Services.{shown_by}
 use Rattle.std.proofs.Common.{◌∙◌, ap, subst, refl}
 use Rattle.std.proofs.lemmas.Bool.{and_parts}
 use Rattle.text_rules.specs.Names.{is_short_name}
@@ -17,6 +18,6 @@ ask-requires g c =
 
 pub returns-in-Refused-clause-carried : goal.returns-in-Refused-clause-carried
 returns-in-Refused-clause-carried g c =
-    let old = c.args.self.now in
+    let old = (shown_by g.E.Engine.about c.args.self.now) in
     subst (λ (l : Line). CarriesOut old.table old.table (exact_moves old old.table l) (g.O.Sink.got c.args.out.now) (g.O.Sink.got c.put_line_refusal.new.out) c.put_line_refusal.result) (c.in-Refused.ensures ∙ c.parse_line.ensures.means)
     (carries_one _ _ _ _ _ _ (replies_one _ _ _ _ _ refl c.put_line_refusal.ensures.text) refl)

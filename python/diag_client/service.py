@@ -92,7 +92,8 @@ def engines_of(engine: Engine, health: int | None, options: Mapping[str, int | b
         raise ValueError(f"{needs} needs a graph, and {hints.SEARCH} has none")
     if engine != "auto":
         return (engine,)
-    return ("graph", "search") if needs is None and options["budget"] is None and options["narrow"] else ("graph",)
+    both: tuple[Engine, ...] = ("graph", "search")
+    return both if needs is None and options["budget"] is None and options["narrow"] else both[:1]
 
 
 def options_of(engine: Engine, options: Mapping[str, int | bool | None]) -> Mapping[str, int | bool | None]:

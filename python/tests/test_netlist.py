@@ -303,7 +303,7 @@ class OneWire(Converts):
             with self.assertRaisesRegex(boards.Bad, why):
                 board.do({"act": "readings", "text": text})
         state = board.do({"act": "readings", "text": "a,y[1]\n0,0\n"})
-        self.assertEqual(dict(state["patterns"][0]["seen"]), {"a": 0, "b": 1, "n": 0})
+        self.assertEqual(dict(state["patterns"][1]["seen"]), {"a": 0, "n": 0})
         state = board.do({"act": "load", "text": "see P y[1]=0\nhold P y[1]=bad\n"})
         self.assertEqual(state["log"][1:], ["open P", "see P n=0", "hold P n=bad"])
 

@@ -299,7 +299,7 @@ class Served(unittest.TestCase):
         self.assertEqual(done.returncode, 0)
         self.assertIn(b"no diagnoses, since the program refuses the device: sum above 1", done.stdout)
         self.assertIn(b"22 = 1 <font", done.stdout)
-        self.assertIn(b"; try --budget 8388608; drawn without diagnoses", done.stderr)
+        self.assertIn(b"; try --budget 8388608, then --engine search; drawn without diagnoses", done.stderr)
 
     def test_interrupt(self):
         """While a device is compiled, an interrupt ends the picture, and the terminal, without a traceback."""
